@@ -5,3 +5,4 @@ pub mod Blocks
 pub mod Macroblocks
 pub mod Deliveries
 pub mod Again
+pub mod Shown

@@ -8,5 +8,6 @@ pub mod faults;
 mod fields;
 pub mod macroblock;
 pub mod reader;
+pub mod show;
 mod take;
 pub mod types;
