@@ -8,12 +8,15 @@ use Rattle.records.specs.declared.types.WordKind.{WordKind}
 use Rattle.records.specs.declared.types.WordKind.the-variants.{Head, Vector, Dc, Coefficient}
 
 -- four bytes make a word, the first byte holding the top bits
+abbrev pub wordOf : ℕ → ℕ → ℕ → ℕ → ℕ
+wordOf a b c d = ((a * 256 + b) * 256 + c) * 256 + d
+
 abbrev pub wordsOf : List ℕ → List ℕ
 wordsOf [] = []
 wordsOf (a ∷ []) = []
 wordsOf (a ∷ b ∷ []) = []
 wordsOf (a ∷ b ∷ c ∷ []) = []
-wordsOf (a ∷ b ∷ c ∷ d ∷ rest) = (((a * 256 + b) * 256 + c) * 256 + d) ∷ wordsOf rest
+wordsOf (a ∷ b ∷ c ∷ d ∷ rest) = wordOf a b c d ∷ wordsOf rest
 
 -- the number in the bits of a word from high down to low, of which bit 31 is the top one
 abbrev pub bits : ℕ → ℕ → ℕ → ℕ

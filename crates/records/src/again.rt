@@ -2,7 +2,7 @@
 ghost use mathlib.Core.Bool.{true};
 ghost use mathlib.Core.List.{[], _∷_};
 ghost use mathlib.Core.Path.{_≡_};
-ghost use Prim.Native.Nat.{ℕ};
+ghost use Prim.Native.Nat.{ℕ, _<_};
 ghost use Rattle.std.specs.Options.{Cases as BySome};
 ghost use Rattle.std.specs.Results.{isOk};
 ghost use Rattle.std.specs.declared.result.Result.the-variants.{Ok};
@@ -28,19 +28,28 @@ impl<'a> Delivery<'a> {
         }
     }
 
+    // The next macroblock, where one is left.
+    fn take_next(&mut self) -> Macroblock
+        requires { ⌜ now self .next < now self .count ⌝ }
+        ensures { λ r. ⌜ recordsOf (now (self .entry)) ≡ r ∷ recordsOf (now (self .exit)) ⌝ }
+    {
+        match read_macroblock(&mut self.words, self.kind, self.next) {
+            Ok(found) => {
+                self.next += 1;
+                found
+            }
+            Err(_) => unreachable(),
+        }
+    }
+
     // The next macroblock, as long as there is one.
     pub fn next_macroblock(&mut self) -> Option<Macroblock>
         ensures { λ r. ⌜ BySome r (recordsOf (now (self .entry)) ≡ []) (λ m. recordsOf (now (self .entry)) ≡ m ∷ recordsOf (now (self .exit))) ⌝ }
     {
-        if self.next >= self.count {
-            return None;
-        }
-        match read_macroblock(&mut self.words, self.kind, self.next) {
-            Ok(found) => {
-                self.next += 1;
-                Some(found)
-            }
-            Err(_) => unreachable(),
+        if self.next < self.count {
+            Some(self.take_next())
+        } else {
+            None
         }
     }
 }

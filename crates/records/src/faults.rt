@@ -88,7 +88,7 @@ pub impl From<MacroblockFault> for SegmentFault as MacroblockInSegment {
 }
 
 // The layer that a refusal speaks of.
-#[derive(Clone, Copy, PartialEq, Eq, Debug)]
+#[derive(Clone, Copy)]
 pub enum Layer {
     Words,
     Macroblock,
@@ -97,7 +97,7 @@ pub enum Layer {
 }
 
 // What a refusal tells its reader.
-#[derive(Clone, Copy, PartialEq, Eq, Debug)]
+#[derive(Clone, Copy)]
 pub struct Refusal {
     pub number: u8,
     pub layer: Layer,

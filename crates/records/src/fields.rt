@@ -4,10 +4,17 @@ ghost use mathlib.Core.List.{[], _∷_};
 ghost use Prim.Native.Nat.{ℕ, _+_, _<_, _≤_};
 ghost use lib.ListN.{length};
 ghost use Rattle.std.specs.Options.{Cases as BySome};
-ghost use Rattle.records.specs.Words.{bits, kindNumber, twosComplement, unnamed, wordsOf};
+ghost use Rattle.records.specs.Words.{bits, kindNumber, twosComplement, unnamed, wordOf, wordsOf};
 use crate::types::WordKind;
 
-// The first word of the bytes, whose first byte holds the top bits, and the bytes after it.
+// The word of four bytes, the first of which holds the top bits.
+fn word_of(a: u8, b: u8, c: u8, d: u8) -> u32
+    ensures { λ r. ⌜ r ≡ wordOf a b c d ⌝ }
+{
+    u32::from_be_bytes([a, b, c, d])
+}
+
+// The first word of the bytes, and the bytes after it.
 pub(crate) fn split_word(bytes: &[u8]) -> Option<(u32, &[u8])>
     ensures words { λ r. ⌜ BySome r (wordsOf (now (bytes .entry)) ≡ []) (λ p. wordsOf (now (bytes .entry)) ≡ p .0 ∷ wordsOf (now (p .1))) ⌝ }
     ensures length { λ r. ⌜ BySome r (length (now (bytes .entry)) < 4) (λ p. length (now (p .1)) + 4 ≡ length (now (bytes .entry))) ⌝ }
@@ -15,7 +22,7 @@ pub(crate) fn split_word(bytes: &[u8]) -> Option<(u32, &[u8])>
     let [a, b, c, d, rest @ ..] = bytes else {
         return None;
     };
-    Some((u32::from_be_bytes([*a, *b, *c, *d]), rest))
+    Some((word_of(*a, *b, *c, *d), rest))
 }
 
 // The number that stands in a word's bits from `high` down to `low`.

@@ -72,7 +72,7 @@ pub enum Macroblock {
 }
 
 // What an accepted delivery is answered: the number of its words, and of its INTRA macroblocks.
-#[derive(Clone, Copy, PartialEq, Eq, Debug)]
+#[derive(Clone, Copy)]
 pub struct Delivered {
     pub words: usize,
     pub intra: usize,

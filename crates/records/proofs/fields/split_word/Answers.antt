@@ -11,4 +11,4 @@ pub returns : need.returns
 returns c =
     let long : 4 ≤ length (c .args .bytes .now) = search needs in
     let more = words-more (c .args .bytes .now) long in
-    record { words = simp (take-rest, c .from-be-bytes .ensures) more; length = simp (take-rest, length-drop) (omega arith) }
+    record { words = simp (take-rest, c .word-of .ensures) more; length = simp (take-rest, length-drop) (omega arith) }

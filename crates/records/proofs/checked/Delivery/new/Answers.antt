@@ -5,7 +5,7 @@ use Rattle.records.proofs.Onward.{accepted-reads}
 use Rattle.records.proofs.checked.Delivery.new.Needs as need
 
 pub ghost-result : need.ghost-result
-ghost-result c = (omega arith, simp (sub-zero, c .new .ensures) (accepted-reads _ _ _ (c .pre) .0, tt))
+ghost-result c = (omega (arith, c .fits .macroblocks), (omega arith, simp (sub-zero, c .new .ensures) (accepted-reads _ _ _ (c .pre) .0, tt)))
 
 pub returns : need.returns
 unfolding recordsOf
