@@ -120,7 +120,7 @@ fn read_code_if(
 }
 
 // Whether a pattern has a block's bit.
-fn is_coded(pattern: u8, block: u8) -> bool
+pub fn is_coded(pattern: u8, block: u8) -> bool
     requires { ⌜ block < 6 ⌝ }
     ensures { λ r. ⌜ r ≡ codedIn pattern block ⌝ }
 {

@@ -11,3 +11,5 @@ pub mod reader;
 pub mod show;
 mod take;
 pub mod types;
+
+pub use block::is_coded;

@@ -1,0 +1,5 @@
+// Rebuilding macroblocks: prediction and residual, brought together sample by sample.
+// Relies on what every store and every transform promises.
+pub mod block;
+pub mod macroblock;
+pub mod source;

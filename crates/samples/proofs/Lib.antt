@@ -1,0 +1,3 @@
+pub mod Components
+pub mod Corrections
+pub mod Levels

@@ -1,0 +1,2 @@
+pub mod InBytes
+pub mod InTiles

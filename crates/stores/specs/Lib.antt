@@ -1,0 +1,3 @@
+pub mod Room
+pub mod Bytes
+pub mod Tiles

@@ -1,0 +1,10 @@
+pub mod Finite
+pub mod Table
+pub mod Sizes
+pub mod Rows
+pub mod Fill
+pub mod SumLaws
+pub mod Composed
+pub mod Laws
+pub mod Positions
+pub mod Quantized
