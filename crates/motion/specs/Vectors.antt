@@ -52,7 +52,7 @@ vectorFor columns vectors i (Inter quantizer pattern d blocks) = corrected (pred
 vectorFor columns vectors i (Intra quantizer pattern blocks) = zeroVector
 
 -- the vectors of the macroblocks to come, after those of the macroblocks before
-abbrev pub vectorsAfter : ℕ → List Vector → List Macroblock → List Vector
+unfoldable pub vectorsAfter : ℕ → List Vector → List Macroblock → List Vector
 vectorsAfter columns vectors [] = vectors
 vectorsAfter columns vectors (m ∷ ms) = vectorsAfter columns (vectors ++ (vectorFor columns vectors (length vectors) m ∷ [])) ms
 

@@ -14,7 +14,7 @@ const ZERO: Vector = Vector {
 };
 
 // The vector at a place of the segment, and zero where there is none.
-fn vector_at(vectors: &[Vector], place: usize) -> Vector
+pub fn vector_at(vectors: &[Vector], place: usize) -> Vector
     ensures { λ r. ⌜ r ≡ vectorsAt (now (vectors .entry)) place ⌝ }
 {
     if place < vectors.len() {

@@ -2,4 +2,5 @@
 // Relies on what every store and every transform promises.
 pub mod block;
 pub mod macroblock;
+pub mod segment;
 pub mod source;
