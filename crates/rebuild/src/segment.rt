@@ -52,19 +52,20 @@ fn rebuild_row<S: Store, T: Transform>(
     }
 }
 
-// Sets the samples of the segment, and no others, from the records of a delivery and the vectors of their macroblocks.
-fn rebuild_samples<S: Store, T: Transform>(
+// Sets the samples of the segment, and no others, from the records of a delivery and the vectors of their macroblocks, which begin at `start`.
+pub(crate) fn rebuild_samples<S: Store, T: Transform>(
     finished: &S,
     working: &mut S,
     transform: &T,
     segment: Segment,
     rounding: Rounding,
     vectors: &[Vector],
+    start: usize,
     mut delivery: Delivery,
 )
     requires { ⌜ segment .left < segment .right ⌝ ∗ ⌜ segment .right ≤ 22 ⌝ ∗ ⌜ segment .top < segment .bottom ⌝ ∗ ⌜ segment .bottom ≤ 22 ⌝ }
-    requires records { ⌜ (segment .bottom - segment .top) * (segment .right - segment .left) ≤ length (recordsOf delivery) ⌝ }
-    ensures { λ _. ⌜ picture (now (working .exit)) ≡ painted (covers segment) (samplesBy (meaning (now (transform .entry))) segment (roundingOf rounding) (picture (now (finished .entry)) .sample) (recordsOf (delivery .entry)) (now (vectors .entry)) (cellAt segment)) (picture (now (working .entry))) ⌝ }
+    requires records { ⌜ (segment .bottom - segment .top) * (segment .right - segment .left) ≤ length (recordsOf delivery) ⌝ ∗ ⌜ start ≤ 5000 ⌝ }
+    ensures { λ _. ⌜ picture (now (working .exit)) ≡ painted (covers segment) (samplesBy (meaning (now (transform .entry))) segment (roundingOf rounding) (picture (now (finished .entry)) .sample) (recordsOf (delivery .entry)) (drop start (now (vectors .entry))) (cellAt segment)) (picture (now (working .entry))) ⌝ }
 {
     let columns = (segment.right - segment.left) as usize;
     for row in segment.top..segment.bottom {
@@ -77,7 +78,7 @@ fn rebuild_samples<S: Store, T: Transform>(
             rounding,
             row,
             vectors,
-            first,
+            start + first,
             &mut delivery,
         );
     }

@@ -27,12 +27,13 @@ loop-row-again g c =
     let row = c .loop-row .row in
     let records = recordsOf (a .delivery) in
     let first = (row - s .top) * (s .right - s .left) in
-    let new = samplesBy (g .T·Transform .meaning (a .transform .now)) s (roundingOf (a .rounding)) (g .S·Store .picture (a .finished .now) .sample) records (a .vectors .now) (cellAt s) in (
+    let new = samplesBy (g .T·Transform .meaning (a .transform .now)) s (roundingOf (a .rounding)) (g .S·Store .picture (a .finished .now) .sample) records (drop (a .start) (a .vectors .now)) (cellAt s) in
+    let part = samplesBy (g .T·Transform .meaning (a .transform .now)) s (roundingOf (a .rounding)) (g .S·Store .picture (a .finished .now) .sample) (recordsOf (c .loop-row .delivery)) (drop (a .start + first) (a .vectors .now)) (columnAt s) in (
       both (rectangle (s .left) (s .right) (s .top) row) (rectangle (s .left) (s .right) row (row + 1)) (rectangle (s .left) (s .right) (s .top) (row + 1)) new
           _ (g .S·Store .picture (c .loop-row .working)) (g .S·Store .picture (c .rebuild-row .last .working)) (c .loop-row .inv .0)
           (c .rebuild-row .ensures .samples
-          ∙ alike _ (rectangle (s .left) (s .right) row (row + 1)) _ _ (λ q u v h. sym (rectangle-covers (g .S·Store .picture (c .loop-row .working)) (record { left = s .left; right = s .right; top = row; bottom = row + 1 }) q u v h))
-          ∙ agreeing _ _ new _ (λ q u v e. row-samples _ s _ _ records _ (a .vectors .now) _ row first q u v refl (c .loop-row .inv .1) refl e))
+          ∙ alike _ (rectangle (s .left) (s .right) row (row + 1)) part (g .S·Store .picture (c .loop-row .working)) (λ q u v h. sym (rectangle-covers (g .S·Store .picture (c .loop-row .working)) (record { left = s .left; right = s .right; top = row; bottom = row + 1 }) q u v h))
+          ∙ agreeing _ part new (g .S·Store .picture (c .loop-row .working)) (λ q u v e. row-samples _ s _ _ records _ (drop (a .start) (a .vectors .now)) _ row first q u v refl (c .loop-row .inv .1) (sym (drop-drop first (a .start) (a .vectors .now))) e))
           (λ q u v. rows-more (s .left) (s .right) (s .top) row q u v (c .loop-row .kept .row)),
       c .rebuild-row .ensures .records ∙ ap (drop (s .right - s .left)) (c .loop-row .inv .1) ∙ drop-drop (s .right - s .left) first records ∙ ap (λ k. drop k records) (row-cells row (s .top) (s .right - s .left) (c .loop-row .kept .row)),
     )
@@ -55,6 +56,6 @@ rebuild-row-requires g c κs =
     let small = mul-le (row - s .top) w 22 22 high wide in
     record {
       0 = c .pre .0;
-      row = (omega arith, omega (arith, small));
-      records = rw (c .loop-row .inv .1) (simp length-drop (omega (arith, c .pre .records, mul-le-mul-right w down, next)));
+      row = (omega arith, omega (arith, small, c .pre .records .1));
+      records = rw (c .loop-row .inv .1) (simp length-drop (omega (arith, c .pre .records .0, mul-le-mul-right w down, next)));
     }

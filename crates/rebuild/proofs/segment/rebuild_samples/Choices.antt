@@ -13,6 +13,6 @@ abbrev pub Inv-loop-row : given.InvT-loop-row
 Inv-loop-row g l =
     (g .S·Store .picture (l .working)
     ≡ painted (rectangle (l .segment .left) (l .segment .right) (l .segment .top) (l .row))
-    (samplesBy (g .T·Transform .meaning (l .transform)) (l .segment) (roundingOf (l .rounding)) (g .S·Store .picture (l .finished) .sample) (recordsOf (l .entry .delivery)) (l .vectors) (cellAt (l .segment)))
+    (samplesBy (g .T·Transform .meaning (l .transform)) (l .segment) (roundingOf (l .rounding)) (g .S·Store .picture (l .finished) .sample) (recordsOf (l .entry .delivery)) (drop (l .start) (l .vectors)) (cellAt (l .segment)))
     (g .S·Store .picture (l .entry .working)))
     × (recordsOf (l .delivery) ≡ drop ((l .row - l .segment .top) * (l .segment .right - l .segment .left)) (recordsOf (l .entry .delivery)))
