@@ -46,23 +46,42 @@ fn hold(low: usize, high: usize, coordinate: usize) -> usize
     coordinate.min(high + 63).max(low + 64) - 64
 }
 
+// A coordinate across, 64 above its value, brought inside the segment.
+fn hold_across(segment: Segment, plane: u8, across: usize) -> usize
+    requires { ⌜ segment .left < segment .right ⌝ ∗ ⌜ segment .right ≤ 22 ⌝ }
+    ensures { λ r. ⌜ r ≡ held (segment .left * side plane) (segment .right * side plane) (pos across -ℤ pos 64) ⌝ }
+{
+    let side = side_of(plane);
+    hold(
+        segment.left as usize * side,
+        segment.right as usize * side,
+        across,
+    )
+}
+
+// A coordinate down, 64 above its value, brought inside the segment.
+fn hold_down(segment: Segment, plane: u8, down: usize) -> usize
+    requires { ⌜ segment .top < segment .bottom ⌝ ∗ ⌜ segment .bottom ≤ 22 ⌝ }
+    ensures { λ r. ⌜ r ≡ held (segment .top * side plane) (segment .bottom * side plane) (pos down -ℤ pos 64) ⌝ }
+{
+    let side = side_of(plane);
+    hold(
+        segment.top as usize * side,
+        segment.bottom as usize * side,
+        down,
+    )
+}
+
 // The finished picture as a segment sees it, at coordinates that are 64 above their value.
 fn sample_in<S: Store>(finished: &S, segment: Segment, plane: u8, across: usize, down: usize) -> u8
     requires { ⌜ segment .left < segment .right ⌝ ∗ ⌜ segment .right ≤ 22 ⌝ ∗ ⌜ segment .top < segment .bottom ⌝ ∗ ⌜ segment .bottom ≤ 22 ⌝ }
     ensures { λ r. ⌜ r ≡ window segment (picture (now (finished .entry)) .sample) plane (pos across -ℤ pos 64) (pos down -ℤ pos 64) ⌝ }
 {
-    let side = side_of(plane);
-    let across = hold(
-        segment.left as usize * side,
-        segment.right as usize * side,
-        across,
-    );
-    let down = hold(
-        segment.top as usize * side,
-        segment.bottom as usize * side,
-        down,
-    );
-    finished.sample(plane, across, down)
+    finished.sample(
+        plane,
+        hold_across(segment, plane, across),
+        hold_down(segment, plane, down),
+    )
 }
 
 // The prediction at a place of a plane, for a vector of so many half samples across and down.

@@ -1,7 +1,9 @@
 // Rebuilding a block.
 ghost use mathlib.Core.Path.{_≡_};
 ghost use Prim.Native.Nat.{ℕ, _+_, _*_, _<_, _≤_, _%_};
-ghost use Rattle.pictures.specs.Pictures.{painted};
+ghost use lib.IntN.{pos, _+ℤ_};
+ghost use Rattle.pictures.specs.Pictures.{painted, written};
+ghost use Rattle.samples.specs.Clipping.{clipped};
 ghost use Rattle.samples.specs.Prediction.{roundingOf};
 ghost use Rattle.rebuild.specs.Blocks.{blockAt, predictedFrom, summed};
 use crate::source::Source;
@@ -40,6 +42,20 @@ fn predicted_sample<S: Store>(
     }
 }
 
+// Sets one sample to the sum of its prediction and its residual.
+fn set_sample<S: Store>(
+    working: &mut S,
+    plane: u8,
+    x: usize,
+    y: usize,
+    prediction: u8,
+    residual: i16,
+)
+    ensures { λ _. ⌜ picture (now (working .exit)) ≡ written (picture (now (working .entry))) plane x y (clipped (pos prediction +ℤ residual)) ⌝ }
+{
+    working.write(plane, x, y, add_residual(prediction, residual));
+}
+
 // Sets the samples of the block whose first sample is at left and top, and no others.
 pub fn rebuild_block<S: Store>(
     finished: &S,
@@ -60,6 +76,6 @@ pub fn rebuild_block<S: Store>(
         let x = left + place % 8;
         let y = top + place / 8;
         let prediction = predicted_sample(finished, segment, rounding, source, plane, x, y);
-        working.write(plane, x, y, add_residual(prediction, residual[place]));
+        set_sample(working, plane, x, y, prediction, residual[place]);
     }
 }

@@ -4,4 +4,4 @@ use Rattle.prediction.proofs.window.sample_in.Needs as need
 
 pub returns : need.returns
 unfolding window
-returns g c = simp (c .sample .ensures, c .hold-across .ensures, c .hold-down .ensures, c .side-of-side .ensures)
+returns g c = simp (c .sample .ensures, c .hold-across .ensures, c .hold-down .ensures)

@@ -20,8 +20,8 @@ loop-place-again g c =
     let value = getD (c .args .residual .now) (c .loop-place .place) (pos 0) in
     let fits : SFits w16 value = search needs in
     step (blockUpTo (c .args .plane) (c .args .left) (c .args .top) (c .loop-place .place)) (blockUpTo (c .args .plane) (c .args .left) (c .args .top) _) _ _ _ _ _ _ _ _
-    (c .loop-place .inv) (c .write .ensures .after)
-    (sample-is _ _ _ (c .loop-place .place) _ _ (c .args .residual .now) (c .add-residual .ensures) (toZ-ofZ w16 value fits) (c .predicted-sample-prediction .ensures)
+    (c .loop-place .inv) (c .set-sample .ensures)
+    (sample-is _ _ _ (c .loop-place .place) _ _ (c .args .residual .now) refl (toZ-ofZ w16 value fits) (c .predicted-sample-prediction .ensures)
     (place-of (c .args .left) (c .args .top) (c .loop-place .place) (omega arith) (omega arith) (omega arith)))
     (λ q u v. block-more _ _ _ (c .loop-place .place) q u v (omega arith))
 
