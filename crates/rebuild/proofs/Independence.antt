@@ -23,7 +23,7 @@ use Rattle.rebuild.specs.Blocks.{predictedFrom}
 use Rattle.rebuild.specs.declared.source.Source.{Source}
 use Rattle.rebuild.specs.declared.source.Source.the-variants.{Nothing, Moved}
 use Rattle.rebuild.specs.Laws.{Independent}
-use Rattle.rebuild.specs.Macroblocks.{macroblockSample, sourceFor}
+use Rattle.rebuild.specs.Macroblocks.{codedSample, macroblockSample, sourceFor}
 use Rattle.rebuild.specs.Rebuilt.{countOf, rebuilt, widthOf}
 use Rattle.rebuild.specs.Segments.{cellAt, samplesBy}
 use Rattle.rebuild.proofs.Cells.{cell-below}
@@ -61,15 +61,22 @@ module _ (s : Segment) (wide : s .left < s .right) (high : s .top < s .bottom) w
     source-same rounding Nothing q u v = refl
     source-same rounding (Moved across down) q u v = prediction-same rounding q u v across down
 
-    sample-same : (meaning : List ℤ → ℕ → ℕ → ℤ) (rounding : ℕ) (m : Macroblock) (vector : Vector) (q u v : ℕ)
+    coded-same : (meaning : List ℤ → ℕ → ℕ → ℤ) (rounding : ℕ) (m : Macroblock) (vector : Vector) (q u v : ℕ)
+        → codedSample meaning s rounding f m vector q u v ≡ codedSample meaning s rounding g m vector q u v
+    unfolding codedSample
+    coded-same meaning rounding m vector q u v = rw (source-same rounding (sourceFor m vector q) q u v) refl
+
+    sample-same : (meaning : List ℤ → ℕ → ℕ → ℤ) (rounding : ℕ) (m : Macroblock) (vector : Vector) (q u v : ℕ) → covers s q u v ≡ true
         → macroblockSample meaning s rounding f m vector q u v ≡ macroblockSample meaning s rounding g m vector q u v
     unfolding macroblockSample
-    sample-same meaning rounding m vector q u v = rw (source-same rounding (sourceFor m vector q) q u v) refl
+    sample-same meaning rounding Skipped vector q u v e = same q u v e
+    sample-same meaning rounding (Inter quantizer pattern d blocks) vector q u v e = coded-same meaning rounding (Inter quantizer pattern d blocks) vector q u v
+    sample-same meaning rounding (Intra quantizer pattern blocks) vector q u v e = coded-same meaning rounding (Intra quantizer pattern blocks) vector q u v
 
 -- an INTRA macroblock is predicted from nothing
 intra-same : (meaning : List ℤ → ℕ → ℕ → ℤ) (s : Segment) (rounding : ℕ) (f g : ℕ → ℕ → ℕ → ℕ) (m : Macroblock) (vector : Vector) (q u v : ℕ) → isIntra m ≡ true
     → macroblockSample meaning s rounding f m vector q u v ≡ macroblockSample meaning s rounding g m vector q u v
-unfolding macroblockSample
+unfolding macroblockSample codedSample
 intra-same meaning s rounding f g Skipped vector q u v e = let z : _≡_ {A = ℕ} 0 1 = cc in absurd (omega arith)
 intra-same meaning s rounding f g (Inter quantizer pattern d blocks) vector q u v e = let z : _≡_ {A = ℕ} 0 1 = cc in absurd (omega arith)
 intra-same meaning s rounding f g (Intra quantizer pattern blocks) vector q u v e = refl
@@ -85,7 +92,7 @@ unfolding samplesBy
 independent s wide high =
     record {
       own-places = λ meaning rounding records marks working f g same.
-          rebuilt-same meaning s rounding records marks working f g (λ q u v e. sample-same s wide high f g same meaning rounding _ _ q u v);
+          rebuilt-same meaning s rounding records marks working f g (λ q u v e. sample-same s wide high f g same meaning rounding _ _ q u v e);
       from-none = λ meaning rounding records marks working f g all.
           rebuilt-same meaning s rounding records marks working f g (λ q u v e. intra-same meaning s rounding f g _ _ q u v (all (cellAt s q u v) (cell-below s q u v e)));
     }

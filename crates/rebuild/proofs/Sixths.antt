@@ -8,14 +8,15 @@ use lib.Dec.{eqb, leb, ltb}
 use lib.IntN.{ℤ, pos}
 use lib.ListN.{getD, replicate}
 use Rattle.records.specs.declared.types.Macroblock.{Macroblock}
+use Rattle.records.specs.declared.types.Macroblock.the-variants.{Skipped, Inter, Intra}
 use Rattle.motion.specs.declared.vectors.Vector.{Vector}
 use Rattle.pictures.specs.declared.layouts.Segment.{Segment}
 use Rattle.std.proofs.shelf.Ways.{tells}
-use Rattle.pictures.specs.Pictures.{Picture, has, painted, side}
+use Rattle.pictures.specs.Pictures.{Picture, covers, has, inside, painted, side}
 use Rattle.pictures.proofs.Painting.{same-picture}
 use Rattle.rebuild.specs.declared.source.Source.{Source}
 use Rattle.rebuild.specs.Blocks.{blockAt, summed}
-use Rattle.rebuild.specs.Macroblocks.{blockOf, leftIn, macroblockAt, macroblockSample, planeOf, residualOf, sourceFor, topIn}
+use Rattle.rebuild.specs.Macroblocks.{blockOf, leftIn, macroblockAt, codedSample, macroblockSample, planeOf, residualOf, sourceFor, topIn}
 
 -- the places of a macroblock in its blocks before block b
 unfoldable pub macroblockUpTo : ℕ → ℕ → ℕ → ℕ → ℕ → ℕ → Bool
@@ -93,11 +94,29 @@ agreeing places new new′ f same = same-picture _ _ refl refl (λ q u v. at q u
 -- a block's samples are the macroblock's
 pub block-samples : (meaning : List ℤ → ℕ → ℕ → ℤ) (s : Segment) (rounding : ℕ) (picture : ℕ → ℕ → ℕ → ℕ) (m : Macroblock) (vector : Vector) (source : Source) (residual : List ℤ) (p b q u v : ℕ)
     → source ≡ sourceFor m vector p → q ≡ p → blockOf q u v ≡ b → getD residual (8 * (v % 8) + u % 8) (pos 0) ≡ residualOf meaning m b (u % 8) (v % 8)
-    → summed s rounding picture source residual q u v ≡ macroblockSample meaning s rounding picture m vector q u v
-unfolding summed macroblockSample
+    → summed s rounding picture source residual q u v ≡ codedSample meaning s rounding picture m vector q u v
+unfolding summed codedSample
 block-samples meaning s rounding picture m vector source residual p b q u v e f g h = rw (g, ← h, e, f) refl
 
 pub zeros-at : (n p : ℕ) → getD (replicate n (pos 0)) p (pos 0) ≡ pos 0
 zeros-at zero p = refl
 zeros-at (suc n) zero = refl
 zeros-at (suc n) (suc p) = zeros-at n p
+
+-- a macroblock is a rectangle of one
+pub one-covered : (column row q u v : ℕ) (f : Picture) → has f q u v ≡ true → covers (record { left = column; right = column + 1; top = row; bottom = row + 1 }) q u v ≡ macroblockAt column row q u v
+unfolding covers macroblockAt inside
+one-covered column row zero u v f h = grind (arith, tells)
+one-covered column row (suc q) u v f h = grind (arith, tells)
+
+-- a skipped macroblock's samples, and a coded one's
+module _ (meaning : List ℤ → ℕ → ℕ → ℤ) (s : Segment) (rounding : ℕ) (picture : ℕ → ℕ → ℕ → ℕ) (vector : Vector) (q u v : ℕ) where
+  pub skipped-sample : (m : Macroblock) → m ≡ Skipped → picture q u v ≡ macroblockSample meaning s rounding picture m vector q u v
+  unfolding macroblockSample
+  skipped-sample m e = rw e refl
+
+  pub coded-sample : (m : Macroblock) → (m ≡ Skipped → ⊥) → codedSample meaning s rounding picture m vector q u v ≡ macroblockSample meaning s rounding picture m vector q u v
+  unfolding macroblockSample
+  coded-sample Skipped h = absurd (h refl)
+  coded-sample (Inter quantizer pattern d blocks) h = refl
+  coded-sample (Intra quantizer pattern blocks) h = refl

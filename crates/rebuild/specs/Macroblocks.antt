@@ -63,7 +63,15 @@ residualOf meaning (Inter quantizer pattern d blocks) b n k =
     cond (codedIn pattern b) (meaning (coefficientsOf quantizer (getD blocks b noBlock)) n k) (pos 0)
 residualOf meaning (Intra quantizer pattern blocks) b n k = meaning (coefficientsOf quantizer (getD blocks b noBlock)) n k
 
--- the samples of a macroblock with its vector
-unfoldable pub macroblockSample : (List ℤ → ℕ → ℕ → ℤ) → Segment → ℕ → (ℕ → ℕ → ℕ → ℕ) → Macroblock → Vector → ℕ → ℕ → ℕ → ℕ
-macroblockSample meaning s rounding picture m vector q u v =
+-- the samples of a coded macroblock with its vector
+unfoldable pub codedSample : (List ℤ → ℕ → ℕ → ℤ) → Segment → ℕ → (ℕ → ℕ → ℕ → ℕ) → Macroblock → Vector → ℕ → ℕ → ℕ → ℕ
+codedSample meaning s rounding picture m vector q u v =
     clipped (pos (predictedFrom s rounding picture (sourceFor m vector q) q u v) +ℤ residualOf meaning m (blockOf q u v) (u % 8) (v % 8))
+
+-- the samples of a macroblock: a skipped one keeps those of the finished picture
+unfoldable pub macroblockSample : (List ℤ → ℕ → ℕ → ℤ) → Segment → ℕ → (ℕ → ℕ → ℕ → ℕ) → Macroblock → Vector → ℕ → ℕ → ℕ → ℕ
+macroblockSample meaning s rounding picture Skipped vector q u v = picture q u v
+macroblockSample meaning s rounding picture (Inter quantizer pattern d blocks) vector q u v =
+    codedSample meaning s rounding picture (Inter quantizer pattern d blocks) vector q u v
+macroblockSample meaning s rounding picture (Intra quantizer pattern blocks) vector q u v =
+    codedSample meaning s rounding picture (Intra quantizer pattern blocks) vector q u v

@@ -6,12 +6,13 @@ ghost use lib.IntN.{ℤ, pos};
 ghost use lib.ListN.{getD};
 ghost use Rattle.pictures.specs.Pictures.{painted};
 ghost use Rattle.samples.specs.Prediction.{roundingOf};
-ghost use Rattle.rebuild.specs.Macroblocks.{coefficientsOf, componentFor, leftIn, macroblockAt, macroblockSample, planeOf, residualOf, sourceFor, topIn};
+ghost use Rattle.rebuild.specs.Macroblocks.{codedSample, coefficientsOf, componentFor, leftIn, macroblockAt, macroblockSample, planeOf, residualOf, sourceFor, topIn};
 use crate::block::rebuild_block;
 use crate::source::Source;
 use motion::vectors::Vector;
 use pictures::Segment;
 use pictures::Store;
+use pictures::copy_segment;
 use records::is_coded;
 use records::types::Block;
 use records::types::Macroblock;
@@ -119,8 +120,8 @@ fn place_of(column: u16, row: u16, block: u8) -> Place
     }
 }
 
-// Sets the samples of the macroblock in a column and a row, and no others.
-pub fn rebuild_macroblock<S: Store, T: Transform>(
+// Sets the samples of a coded macroblock in a column and a row, and no others.
+fn rebuild_coded<S: Store, T: Transform>(
     finished: &S,
     working: &mut S,
     transform: &T,
@@ -133,7 +134,7 @@ pub fn rebuild_macroblock<S: Store, T: Transform>(
 )
     requires { ⌜ segment .left < segment .right ⌝ ∗ ⌜ segment .right ≤ 22 ⌝ ∗ ⌜ segment .top < segment .bottom ⌝ ∗ ⌜ segment .bottom ≤ 22 ⌝ }
     requires place { ⌜ column ≤ 22 ⌝ ∗ ⌜ row ≤ 22 ⌝ }
-    ensures { λ _. ⌜ picture (now (working .exit)) ≡ painted (macroblockAt column row) (macroblockSample (meaning (now (transform .entry))) segment (roundingOf rounding) (picture (now (finished .entry)) .sample) (now (macroblock .entry)) vector) (picture (now (working .entry))) ⌝ }
+    ensures { λ _. ⌜ picture (now (working .exit)) ≡ painted (macroblockAt column row) (codedSample (meaning (now (transform .entry))) segment (roundingOf rounding) (picture (now (finished .entry)) .sample) (now (macroblock .entry)) vector) (picture (now (working .entry))) ⌝ }
 {
     for block in 0..6 {
         let place = place_of(column, row, block);
@@ -150,5 +151,54 @@ pub fn rebuild_macroblock<S: Store, T: Transform>(
             place.top,
             &residual,
         );
+    }
+}
+
+// Copies the samples of the macroblock in a column and a row, and no others.
+fn copy_macroblock<S: Store>(finished: &S, working: &mut S, column: u16, row: u16)
+    requires { ⌜ column ≤ 22 ⌝ ∗ ⌜ row ≤ 22 ⌝ }
+    ensures { λ _. ⌜ picture (now (working .exit)) ≡ painted (macroblockAt column row) (picture (now (finished .entry)) .sample) (picture (now (working .entry))) ⌝ }
+{
+    copy_segment(
+        finished,
+        working,
+        Segment {
+            left: column,
+            right: column + 1,
+            top: row,
+            bottom: row + 1,
+        },
+    );
+}
+
+// Sets the samples of the macroblock in a column and a row, and no others.
+pub fn rebuild_macroblock<S: Store, T: Transform>(
+    finished: &S,
+    working: &mut S,
+    transform: &T,
+    segment: Segment,
+    rounding: Rounding,
+    column: u16,
+    row: u16,
+    macroblock: &Macroblock,
+    vector: Vector,
+)
+    requires { ⌜ segment .left < segment .right ⌝ ∗ ⌜ segment .right ≤ 22 ⌝ ∗ ⌜ segment .top < segment .bottom ⌝ ∗ ⌜ segment .bottom ≤ 22 ⌝ }
+    requires place { ⌜ column ≤ 22 ⌝ ∗ ⌜ row ≤ 22 ⌝ }
+    ensures { λ _. ⌜ picture (now (working .exit)) ≡ painted (macroblockAt column row) (macroblockSample (meaning (now (transform .entry))) segment (roundingOf rounding) (picture (now (finished .entry)) .sample) (now (macroblock .entry)) vector) (picture (now (working .entry))) ⌝ }
+{
+    match macroblock {
+        Macroblock::Skipped => copy_macroblock(finished, working, column, row),
+        _ => rebuild_coded(
+            finished,
+            working,
+            transform,
+            segment,
+            rounding,
+            column,
+            row,
+            macroblock,
+            vector,
+        ),
     }
 }
