@@ -1,6 +1,6 @@
 // The standard's generator of random blocks.
 ghost use mathlib.Core.Path.{_≡_};
-ghost use Rattle.conformance.specs.Draws.{drawn, stepped};
+ghost use Rattle.conformance.specs.Draws.{drawn, stepped, steppedBy};
 
 // Numbers from -low to high.
 #[derive(Clone, Copy)]
@@ -31,8 +31,10 @@ impl Generator {
         number(self.state, range)
     }
 
-    // A block by rows, or with every sign turned.
-    pub fn block(&mut self, range: Range, turned: bool) -> [f64; 64] {
+    // A block by rows, or with every sign turned. It takes 64 numbers from the generator, turned or not.
+    pub fn block(&mut self, range: Range, turned: bool) -> [f64; 64]
+        ensures { λ _. ⌜ now (self .exit) .state ≡ steppedBy 64 (now (self .entry) .state) ⌝ }
+    {
         let sign = if turned { -1.0 } else { 1.0 };
         let mut samples = [0.0; 64];
         for p in 0..64 {
