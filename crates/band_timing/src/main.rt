@@ -1,5 +1,7 @@
 // Writes, fills and copies whole CIF pictures in both stores. Prints the sums of what was copied, which are the same in every run; says how
 // long it took, on the error stream, only where it is given a number of rounds.
+#![tactic(auto)]
+
 ghost use Rattle.band_timing.specs.Size.{SameSize};
 
 use pictures::{Format, Store, copy_picture, fill_segment};

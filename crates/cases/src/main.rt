@@ -1,5 +1,7 @@
 // Plays recorded scripts in both stores, and holds the answers against those that are expected.
 // The arguments name the cases: NAME stands for the files NAME.script and NAME.expected.
+#![tactic(auto)]
+
 ghost use Rattle.std.specs.Prelude.{◌≡◌, is_ok};
 ghost use Rattle.std.specs.Str.{bytes_eq};
 

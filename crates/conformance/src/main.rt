@@ -1,6 +1,8 @@
 // The standard's accuracy test of inverse transforms: 10,000 random blocks for each of three ranges, and the same with every sign turned, go
 // through a forward transform in floating point; of the coefficients, whole and within their range, the transform under test and an
 // inverse in floating point make results that may differ only within limits.
+#![tactic(auto)]
+
 mod draws;
 mod errors;
 mod reference;

@@ -1,5 +1,7 @@
 // The deblocking filter over the edges of 8 by 8 blocks inside a segment of a picture, whatever store keeps it. An edge runs along one
 // coordinate and is crossed over the other; `turned` tells vertical edges, which run down, from horizontal ones, which run across.
+#![tactic(auto)]
+
 ghost use Rattle.std.specs.Prelude.{◌≡◌, ◌+◌, ◌*◌, ◌≤◌, ◌&&◌, Some, ◌==◌};
 ghost use Rattle.pictures.specs.Pictures.{painted, side, written};
 ghost use Rattle.deblocking.specs.Edges.{Local, across_of, border, down_of, edge_mark, edges, edges_in, filtered, filtered_over, mark_of, or_else, quantizer_at, smoothed, turn, turn_segment};

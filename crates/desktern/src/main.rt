@@ -1,4 +1,6 @@
 // Reads a script of calls from standard input and prints an answer for each.
+#![tactic(auto)]
+
 ghost use Rattle.std.specs.Prelude.{◌≡◌, ℕ, ◌+◌, ◌-◌, ◌^◌, min};
 
 use records::checked::Delivery;

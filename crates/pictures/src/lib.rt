@@ -1,4 +1,6 @@
 // Pictures by their meaning: formats, layouts and segments, what a store of samples promises, and what can be done over every store.
+#![tactic(auto)]
+
 mod formats;
 mod layouts;
 mod planes;

@@ -1,4 +1,6 @@
 // Reads a script of calls from standard input, plays it and prints the answers.
+#![tactic(auto)]
+
 use call_lines::line::StoreKind;
 use player::play;
 use std::io::Read;

@@ -1,5 +1,7 @@
 // Rebuilding macroblocks: prediction and residual, brought together sample by sample.
 // Relies on what every store and every transform promises.
+#![tactic(auto)]
+
 pub mod block;
 pub mod delivered;
 pub mod macroblock;

@@ -1,5 +1,7 @@
 // Rebuilds the pictures of recorded cases, in both stores, and prints a sum of each plane and of the ages.
 // Standard input holds blocks: `case FORMAT TRANSFORM`, then `segment KIND ROUNDING LAYOUT NUMBER BYTES` and `close`, then `end`.
+#![tactic(auto)]
+
 use anyhow::anyhow;
 use motion::vectors::Vector;
 use pictures::{Format, Segment, Store, copy_picture, side_of};

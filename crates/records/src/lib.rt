@@ -1,5 +1,7 @@
 // The records of a delivery: four-byte words that become macroblocks, or one exactly located fault.
 // Relies on nothing but the standard library; allocates nothing and reads each word once.
+#![tactic(auto)]
+
 pub mod again;
 mod block;
 pub mod checked;

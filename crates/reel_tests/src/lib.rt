@@ -1,5 +1,7 @@
 // What no script of calls can reach: memory of a wrong size, the picture limit, and a slip that a refused closing hands back. And a caller of the
 // library in the form that a station would have: the slip goes from call to call and is handed in at the end.
+#![tactic(auto)]
+
 ghost use Rattle.std.specs.Prelude.{◌≡◌};
 
 use pictures::Store;

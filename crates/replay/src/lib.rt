@@ -1,4 +1,6 @@
 // Lists of calls on a reel, and the law that holds over every such list.
+#![tactic(auto)]
+
 ghost use Rattle.std.specs.Prelude.{◌≡◌, false, MatchResult};
 ghost use Rattle.calls.specs.Held.{fits};
 ghost use Rattle.calls.specs.Laws.{LawOverRuns};

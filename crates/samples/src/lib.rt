@@ -1,4 +1,6 @@
 // The rules by which single samples, vectors and ages are rebuilt: leaves for the code that goes over pictures.
+#![tactic(auto)]
+
 ghost use Rattle.samples.specs.Figures.{Figures};
 
 mod ages;

@@ -1,5 +1,7 @@
 // Two stores of one meaning: one keeps a byte for each sample, plane by plane; the other keeps four neighbours to a word, macroblock by
 // macroblock.
+#![tactic(auto)]
+
 mod bytes;
 mod room;
 mod tiles;

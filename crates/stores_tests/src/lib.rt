@@ -1,4 +1,6 @@
 // Both stores side by side, on all formats; the memories cell by cell; segments; and tables of each kind of element.
+#![tactic(auto)]
+
 ghost use Rattle.std.specs.Prelude.{◌≡◌, ℕ, ◌+◌, ◌&&◌, length, ℤ, pos, if◌then◌else◌, None, Option, nat_le, nat_lt, slice_index_or};
 
 #[cfg(test)]

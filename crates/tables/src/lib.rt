@@ -1,5 +1,7 @@
 // Tables: one cell for each macroblock in raster order, over a slice of any element that is copied. A part of a table that is handed on,
 // as `&mut cells[first..]`, is a table again; the cells before it stay as they are.
+#![tactic(auto)]
+
 ghost use Rattle.std.specs.Prelude.{◌≡◌, ℕ, ◌+◌, ◌&&◌, ltb, length, replicate, if◌then◌else◌, Some, None, nat_eq, nat_le, nat_lt, slice_index_or};
 
 // Sets every cell to the value.

@@ -1,4 +1,6 @@
 // Inverse transforms of blocks of 8 by 8 coefficients, and what all of them have in common.
+#![tactic(auto)]
+
 ghost use Rattle.std.specs.Prelude.{◌≡◌, ℕ, ◌+◌, ◌*◌, ◌^◌, ◌<◌, List, map, ℤ, pos, negsuc, ◌≤ℤ◌, slice_index_or};
 ghost use Rattle.transform.specs.Factors.{cosine};
 ghost use Rattle.transform.specs.Inverse.{direct, limited, once, ranged, twice, two_pass};

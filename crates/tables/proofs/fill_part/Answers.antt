@@ -11,8 +11,8 @@ returns-then-first-cells g c k d =
     let v = c.args.value in
     let x = get_or xs k d in
     let m : length (take (size - first) (drop first xs)) ≡ size - first = simp (length-take, length-drop) (omega arith) in
-    by_rule first size xs c.fill-front.new.cells k d (cond (ltb (k - first) c.args.count && ltb (k - first) (size - first)) v x) (omega arith) (omega arith) (c.fill-front.auto.cells ∙ m)
-    (λ h i. c.fill-front.ensures (k - first) d
+    by_rule first size xs c.fill_front.new.cells k d (cond (ltb (k - first) c.args.count && ltb (k - first) (size - first)) v x) (omega arith) (omega arith) (c.fill_front.auto.cells ∙ m)
+    (λ h i. c.fill_front.ensures (k - first) d
     ∙ ap (λ n. cond (ltb (k - first) c.args.count && ltb (k - first) n) v (get_or (take (size - first) (drop first xs)) (k - first) d)) m
     ∙ ap (λ y. cond (ltb (k - first) c.args.count && ltb (k - first) (size - first)) v y) (of_part first size xs k d h i))
     ∙ front_within first c.args.count size k v x c.if-first-cells.true

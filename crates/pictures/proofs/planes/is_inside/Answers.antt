@@ -13,12 +13,12 @@ pub returns-then-across-columns : goal.returns-then-across-columns
 unfolding inside
 returns-then-across-columns c =
     let p : ltb c.args.plane 3 ≡ true = lt-ltb _ _ (omega arith) in
-    let x : ltb c.args.across (c.args.columns * side c.args.plane) ≡ false = rw (← c.side-of-side.ensures) (le-ltb _ _ (omega arith)) in
+    let x : ltb c.args.across (c.args.columns * side c.args.plane) ≡ false = rw (← c.side_of-side.ensures) (le-ltb _ _ (omega arith)) in
     simp (p, x)
 
 pub returns : goal.returns
 unfolding inside
 returns c =
     let p : ltb c.args.plane 3 ≡ true = lt-ltb _ _ (omega arith) in
-    let x : ltb c.args.across (c.args.columns * side c.args.plane) ≡ true = rw (← c.side-of-side.ensures) (lt-ltb _ _ (omega arith)) in
-    simp (p, x, c.side-of-side.ensures)
+    let x : ltb c.args.across (c.args.columns * side c.args.plane) ≡ true = rw (← c.side_of-side.ensures) (lt-ltb _ _ (omega arith)) in
+    simp (p, x, c.side_of-side.ensures)

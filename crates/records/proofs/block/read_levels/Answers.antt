@@ -17,16 +17,16 @@ returns-in-err-found c =
 
 pub returns-then-found : goal.returns-then-found
 returns-then-found c =
-    let fits : SFits w8 c.in-ok-found.found.level = search rules in
-    sym (ended _ _ _ (state_of c.loop-word.words).0 _ c.loop-word.from c.loop-word.levels _ _ _ _ c.place-place.ensures c.in-ok-word.ensures c.in-ok-found.ensures.value (to_z-of_z w8 _ fits) c.if-found.true) ∙ c.loop-word.invariant.0
+    let fits : SFits w8 c.in_ok-found.found.level = search rules in
+    sym (ended _ _ _ (state_of c.loop-word.words).0 _ c.loop-word.from c.loop-word.levels _ _ _ _ c.place-place.ensures c.in_ok-word.ensures c.in_ok-found.ensures.value (to_z-of_z w8 _ fits) c.if-found.true) ∙ c.loop-word.invariant.0
 
 pub loop-word-smaller : goal.loop-word-smaller
-loop-word-smaller c = shorter _ _ _ _ _ c.in-ok-word.ensures
+loop-word-smaller c = shorter _ _ _ _ _ c.in_ok-word.ensures
 
 pub loop-word-preserved : goal.loop-word-preserved
 loop-word-preserved c =
-    let fits : SFits w8 c.in-ok-found.found.level = search rules in (
-      sym (goes_on _ _ _ (state_of c.loop-word.words).0 _ c.loop-word.from c.loop-word.levels _ _ _ _ c.place-place.ensures c.in-ok-word.ensures c.in-ok-found.ensures.value (to_z-of_z w8 _ fits) c.if-found.false) ∙ c.loop-word.invariant.0,
-      omega (arith, c.in-ok-found.ensures.within),
+    let fits : SFits w8 c.in_ok-found.found.level = search rules in (
+      sym (goes_on _ _ _ (state_of c.loop-word.words).0 _ c.loop-word.from c.loop-word.levels _ _ _ _ c.place-place.ensures c.in_ok-word.ensures c.in_ok-found.ensures.value (to_z-of_z w8 _ fits) c.if-found.false) ∙ c.loop-word.invariant.0,
+      omega (arith, c.in_ok-found.ensures.within),
       simp length-set (omega arith),
     )

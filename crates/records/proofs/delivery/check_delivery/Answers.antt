@@ -31,8 +31,8 @@ returns-in-err-found c =
 
 pub loop-macroblock-preserved : goal.loop-macroblock-preserved
 loop-macroblock-preserved c = (
-  sym (more _ _ _ c.loop-macroblock.intra (state_of c.loop-macroblock.words) _ _ _ c.loop-macroblock-test.true c.in-ok-found.ensures (c.from-intra.ensures ∙ byte_is _ ∙ ap (λ b. cond b 1 0) c.is-intra.ensures)) ∙ c.loop-macroblock.invariant.0,
-  omega (arith, c.from-intra.ensures, byte_small c.is-intra.result, c.loop-macroblock.invariant.1),
+  sym (more _ _ _ c.loop-macroblock.intra (state_of c.loop-macroblock.words) _ _ _ c.loop-macroblock-test.true c.in_ok-found.ensures (c.from-intra.ensures ∙ byte_is _ ∙ ap (λ b. cond b 1 0) c.is_intra.ensures)) ∙ c.loop-macroblock.invariant.0,
+  omega (arith, c.from-intra.ensures, byte_small c.is_intra.result, c.loop-macroblock.invariant.1),
 )
 
 pub returns-in-err-check-end : goal.returns-in-err-check-end
@@ -44,5 +44,5 @@ returns-in-err-check-end c =
 
 pub returns : goal.returns
 returns c =
-    let v = sym (whole _ _ _ _ (state_of c.loop-macroblock.words) c.in-ok-check-bytes.ensures (sym c.loop-macroblock.invariant.0 ∙ done _ _ _ c.loop-macroblock.intra (state_of c.loop-macroblock.words) c.loop-macroblock-test.false) c.in-ok-check-end.ensures) in
+    let v = sym (whole _ _ _ _ (state_of c.loop-macroblock.words) c.in_ok-check_bytes.ensures (sym c.loop-macroblock.invariant.0 ∙ done _ _ _ c.loop-macroblock.intra (state_of c.loop-macroblock.words) c.loop-macroblock-test.false) c.in_ok-check_end.ensures) in
     record { value = v; accepted = accepted_is c.args.kind c.args.macroblocks c.args.bytes.now _ v; whole = reads_whole _ _ _ }

@@ -7,4 +7,4 @@ pub returns : goal.returns
 returns c =
     let long : 4 ≤ length c.args.bytes.now = search rules in
     let more = words_more c.args.bytes.now long in
-    record { words = simp (take_rest, c.word-of.ensures) more; length = simp (take_rest, length-drop) (omega arith) }
+    record { words = simp (take_rest, c.word_of.ensures) more; length = simp (take_rest, length-drop) (omega arith) }

@@ -15,7 +15,7 @@ loop-block-init c = (after_none _, refl)
 
 pub loop-block-preserved : goal.loop-block-preserved
 loop-block-preserved c = (
-  sym (blocks_more _ _ _ _ (state_of c.loop-block.words) c.loop-block.gathered _ _ c.loop-block-test.true c.loop-block.invariant.1 c.in-ok-found.ensures) ∙ c.loop-block.invariant.0,
+  sym (blocks_more _ _ _ _ (state_of c.loop-block.words) c.loop-block.gathered _ _ c.loop-block-test.true c.loop-block.invariant.1 c.in_ok-found.ensures) ∙ c.loop-block.invariant.0,
   simp length-set c.loop-block.invariant.1,
 )
 

@@ -16,7 +16,7 @@ returns-then-layout-eq0 c =
 pub returns : goal.returns
 unfolding sound
 returns c =
-    let is : ltb c.args.layout c.layout-limit.result ≡ sound c.args.self c.args.layout =
-    ap (ltb c.args.layout) c.layout-limit.ensures
+    let is : ltb c.args.layout c.layout_limit.result ≡ sound c.args.self c.args.layout =
+    ap (ltb c.args.layout) c.layout_limit.ensures
     ∙ sym (ap (λ b. b && ltb c.args.layout (2 ^ rows_of c.args.self)) (odd_bit c.args.layout ∙ eq-eqb _ 1 (omega arith))) in
     record { value = is; bits = Decides-at _ _ is (sound_bits c.args.self c.args.layout (omega arith)) }

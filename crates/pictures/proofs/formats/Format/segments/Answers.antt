@@ -7,7 +7,7 @@ pub returns : goal.returns
 unfolding segment_count
 returns c =
     record {
-      value = add-one c.segment-of.result ∙ ap suc (c.segment-of.ensures.value ∙ ap (λ n. segment_of c.args.layout (n - 1)) c.rows.ensures.value);
+      value = add-one c.segment_of.result ∙ ap suc (c.segment_of.ensures.value ∙ ap (λ n. segment_of c.args.layout (n - 1)) c.rows.ensures.value);
       laws = segmented c.args.self c.args.layout;
       few = omega arith;
     }

@@ -11,11 +11,11 @@ loop-across-preserved g c =
     let p = c.args.plane in
     let y = c.args.down in
     let x = c.loop-across.across in
-    let z = c.fill-run-across.result in
-    let lt : x < z = c.fill-run-across.ensures.next.0 in
-    let le : z ≤ c.args.right = c.fill-run-across.ensures.next.1 in (
+    let z = c.fill_run-across.result in
+    let lt : x < z = c.fill_run-across.ensures.next.0 in
+    let le : z ≤ c.args.right = c.fill_run-across.ensures.next.1 in (
       both (span p y c.args.left x) (span p y x z) _ (λ _ _ _. c.args.value) _ (g.Self.Store.picture c.loop-across.self) _
-          c.loop-across.invariant.0 c.fill-run-across.ensures.after (λ q u v. span_join p y c.args.left x z q u v c.loop-across.invariant.1 (omega arith)),
+          c.loop-across.invariant.0 c.fill_run-across.ensures.after (λ q u v. span_join p y c.args.left x z q u v c.loop-across.invariant.1 (omega arith)),
       omega (arith, c.loop-across.invariant.1),
       omega (arith, c.loop-across.invariant.2),
     )
