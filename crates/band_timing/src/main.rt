@@ -11,7 +11,7 @@ use stores::{ByteStore, TileStore};
 
 // Gives each sample of a row of plane 0 a value of its own.
 fn draw_row<S: Store>(store: &mut S, down: usize, seed: u32)
-    ensures { SameSize (picture store.new) (picture store.old) }
+    ensures { SameSize (S.picture store.new) (S.picture store.old) }
 {
     for across in 0..352 {
         store.write(
@@ -24,7 +24,7 @@ fn draw_row<S: Store>(store: &mut S, down: usize, seed: u32)
 }
 
 fn draw<S: Store>(store: &mut S, seed: u32)
-    ensures { SameSize (picture store.new) (picture store.old) }
+    ensures { SameSize (S.picture store.new) (S.picture store.old) }
 {
     for down in 0..288 {
         draw_row(store, down, seed);
@@ -32,7 +32,7 @@ fn draw<S: Store>(store: &mut S, seed: u32)
 }
 
 fn draw_often<S: Store>(store: &mut S, rounds: u32)
-    ensures { SameSize (picture store.new) (picture store.old) }
+    ensures { SameSize (S.picture store.new) (S.picture store.old) }
 {
     for round in 0..rounds {
         draw(store, rounds - 1 - round);
@@ -41,7 +41,7 @@ fn draw_often<S: Store>(store: &mut S, rounds: u32)
 
 // Fills the picture with another value each time.
 fn fill_often<S: Store>(store: &mut S, rounds: u32)
-    ensures { SameSize (picture store.new) (picture store.old) }
+    ensures { SameSize (S.picture store.new) (S.picture store.old) }
 {
     for round in 0..rounds {
         fill_segment(store, Format::Cif.segment(1, 0), (round % 256) as u8);
@@ -50,7 +50,7 @@ fn fill_often<S: Store>(store: &mut S, rounds: u32)
 
 // Copies the picture to and fro; what the first store held is then in both.
 fn copy_often<S: Store>(one: &mut S, two: &mut S, rounds: u32)
-    ensures { (SameSize (picture one.new) (picture one.old)) × (SameSize (picture two.new) (picture two.old)) }
+    ensures { (SameSize (S.picture one.new) (S.picture one.old)) × (SameSize (S.picture two.new) (S.picture two.old)) }
 {
     for _ in 0..rounds {
         copy_picture(one, two);

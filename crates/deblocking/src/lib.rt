@@ -48,7 +48,7 @@ struct Edge {
 
 // The sample at a place along and over an edge.
 fn sample_at<S: Store>(store: &S, edge: Edge, along: usize, over: usize) -> u8
-    ensures { result ≡ (turn edge.turned (picture store.now)).sample edge.plane along over }
+    ensures { result ≡ (turn edge.turned (S.picture store.now)).sample edge.plane along over }
 {
     let across = across_of(edge.turned, along, over);
     let down = down_of(edge.turned, along, over);
@@ -56,7 +56,7 @@ fn sample_at<S: Store>(store: &S, edge: Edge, along: usize, over: usize) -> u8
 }
 
 fn write_at<S: Store>(store: &mut S, edge: Edge, along: usize, over: usize, value: u8)
-    ensures { picture store.new ≡ written (picture store.old) edge.plane (across_of edge.turned along over) (down_of edge.turned along over) value }
+    ensures { S.picture store.new ≡ written (S.picture store.old) edge.plane (across_of edge.turned along over) (down_of edge.turned along over) value }
 {
     let across = across_of(edge.turned, along, over);
     let down = down_of(edge.turned, along, over);
@@ -118,7 +118,7 @@ fn edge_mark(marks: &[Option<u8>], columns: u16, edge: Edge, along: u16) -> Opti
 // Filters an edge at one place along it.
 fn smooth_place<S: Store>(store: &mut S, edge: Edge, along: usize, quantizer: u8)
     requires { (1 ≤ edge.number) × ((edge.number ≤ 200000) × (along ≤ 2000000)) }
-    ensures { turn edge.turned (picture store.new) ≡ painted (edges edge.plane along (along + 1) edge.number (edge.number + 1)) (smoothed (λ _ _ _. Some quantizer) (turn edge.turned (picture store.old)).sample) (turn edge.turned (picture store.old)) }
+    ensures { turn edge.turned (S.picture store.new) ≡ painted (edges edge.plane along (along + 1) edge.number (edge.number + 1)) (smoothed (λ _ _ _. Some quantizer) (turn edge.turned (S.picture store.old)).sample) (turn edge.turned (S.picture store.old)) }
 {
     let first = edge.number * 8 - 2;
     let four = Four {
@@ -137,7 +137,7 @@ fn smooth_place<S: Store>(store: &mut S, edge: Edge, along: usize, quantizer: u8
 // Filters an edge from low to before high along it.
 fn smooth_run<S: Store>(store: &mut S, edge: Edge, low: usize, high: usize, quantizer: u8)
     requires { (low ≤ high) × ((high ≤ 2000000) × ((1 ≤ edge.number) × (edge.number ≤ 200000))) }
-    ensures { turn edge.turned (picture store.new) ≡ painted (edges edge.plane low high edge.number (edge.number + 1)) (smoothed (λ _ _ _. Some quantizer) (turn edge.turned (picture store.old)).sample) (turn edge.turned (picture store.old)) }
+    ensures { turn edge.turned (S.picture store.new) ≡ painted (edges edge.plane low high edge.number (edge.number + 1)) (smoothed (λ _ _ _. Some quantizer) (turn edge.turned (S.picture store.old)).sample) (turn edge.turned (S.picture store.old)) }
 {
     for along in low..high {
         smooth_place(store, edge, along, quantizer);
@@ -147,7 +147,7 @@ fn smooth_run<S: Store>(store: &mut S, edge: Edge, low: usize, high: usize, quan
 // The same where there is a mark, and nothing where there is none.
 fn smooth_marked<S: Store>(store: &mut S, edge: Edge, low: usize, high: usize, mark: Option<u8>)
     requires { (low ≤ high) × ((high ≤ 2000000) × ((1 ≤ edge.number) × (edge.number ≤ 200000))) }
-    ensures { turn edge.turned (picture store.new) ≡ painted (edges edge.plane low high edge.number (edge.number + 1)) (smoothed (λ _ _ _. mark) (turn edge.turned (picture store.old)).sample) (turn edge.turned (picture store.old)) }
+    ensures { turn edge.turned (S.picture store.new) ≡ painted (edges edge.plane low high edge.number (edge.number + 1)) (smoothed (λ _ _ _. mark) (turn edge.turned (S.picture store.old)).sample) (turn edge.turned (S.picture store.old)) }
 {
     if let Some(quantizer) = mark {
         smooth_run(store, edge, low, high, quantizer);
@@ -164,7 +164,7 @@ fn smooth_edge<S: Store>(
     right: u16,
 )
     requires { (1 ≤ edge.number) × (edge.number ≤ 200000) }
-    ensures { turn edge.turned (picture store.new) ≡ painted (edges edge.plane (left * side edge.plane) (right * side edge.plane) edge.number (edge.number + 1)) (smoothed (quantizer_at marks.now columns edge.turned) (turn edge.turned (picture store.old)).sample) (turn edge.turned (picture store.old)) }
+    ensures { turn edge.turned (S.picture store.new) ≡ painted (edges edge.plane (left * side edge.plane) (right * side edge.plane) edge.number (edge.number + 1)) (smoothed (quantizer_at marks.now columns edge.turned) (turn edge.turned (S.picture store.old)).sample) (turn edge.turned (S.picture store.old)) }
 {
     let width = side_of(edge.plane);
     for along in left..right {
@@ -198,7 +198,7 @@ fn smooth_plane<S: Store>(
     turned: bool,
     segment: Segment,
 )
-    ensures { turn turned (picture store.new) ≡ painted (λ q u v. (plane == q) && edges_in segment q u v) (smoothed (quantizer_at marks.now columns turned) (turn turned (picture store.old)).sample) (turn turned (picture store.old)) }
+    ensures { turn turned (S.picture store.new) ≡ painted (λ q u v. (plane == q) && edges_in segment q u v) (smoothed (quantizer_at marks.now columns turned) (turn turned (S.picture store.old)).sample) (turn turned (S.picture store.old)) }
 {
     for number in first_inside(plane, segment.top)..border_of(plane, segment.bottom) {
         let edge = Edge {
@@ -212,7 +212,7 @@ fn smooth_plane<S: Store>(
 
 // Filters the horizontal edges inside a segment, or, turned, the vertical ones, in all planes.
 fn smooth_edges<S: Store>(store: &mut S, marks: &[Option<u8>], turned: bool, segment: Segment)
-    ensures { picture store.new ≡ filtered_over turned marks.now segment (picture store.old) }
+    ensures { S.picture store.new ≡ filtered_over turned marks.now segment (S.picture store.old) }
 {
     let columns = store.columns();
     let inner = turned_segment(turned, segment);
@@ -223,7 +223,7 @@ fn smooth_edges<S: Store>(store: &mut S, marks: &[Option<u8>], turned: bool, seg
 
 // The horizontal edges first, then in the result the vertical ones.
 fn smooth_segment<S: Store>(store: &mut S, marks: &[Option<u8>], segment: Segment)
-    ensures { picture store.new ≡ filtered marks.now segment (picture store.old) }
+    ensures { S.picture store.new ≡ filtered marks.now segment (S.picture store.old) }
 {
     smooth_edges(store, marks, false, segment);
     smooth_edges(store, marks, true, segment);
@@ -232,7 +232,7 @@ fn smooth_segment<S: Store>(store: &mut S, marks: &[Option<u8>], segment: Segmen
 // Filters the edges inside a segment by the marks of its macroblocks: the quantizers of those that were coded. The table has a cell for each
 // macroblock of the picture, by rows.
 pub fn deblock_segment<S: Store>(store: &mut S, marks: &[Option<u8>], segment: Segment)
-    ensures after { picture store.new ≡ filtered marks.now segment (picture store.old) }
+    ensures after { S.picture store.new ≡ filtered marks.now segment (S.picture store.old) }
     ensures local { Local segment }
 {
     smooth_segment(store, marks, segment);

@@ -69,7 +69,7 @@ fn hold_down(segment: Segment, plane: u8, down: usize) -> usize
 // The finished picture as a segment sees it, at coordinates that are 64 above their value.
 fn sample_in<S: Store>(finished: &S, segment: Segment, plane: u8, across: usize, down: usize) -> u8
     requires { (segment.left < segment.right) × ((segment.right ≤ 22) × ((segment.top < segment.bottom) × (segment.bottom ≤ 22))) }
-    ensures { result ≡ window segment (picture finished.now).sample plane (pos across -ℤ pos 64) (pos down -ℤ pos 64) }
+    ensures { result ≡ window segment (S.picture finished.now).sample plane (pos across -ℤ pos 64) (pos down -ℤ pos 64) }
 {
     finished.sample(
         plane,
@@ -91,7 +91,7 @@ pub fn predict_at<S: Store>(
 ) -> u8
     requires left_lt_right { (segment.left < segment.right) × ((segment.right ≤ 22) × ((segment.top < segment.bottom) × (segment.bottom ≤ 22))) }
     requires small { (x ≤ 65535) × (y ≤ 65535) }
-    ensures { result ≡ prediction_at segment (rounding_of rounding) (picture finished.now).sample plane x y across down }
+    ensures { result ≡ prediction_at segment (rounding_of rounding) (S.picture finished.now).sample plane x y across down }
 {
     let u = moved(x, across);
     let v = moved(y, down);

@@ -22,7 +22,7 @@ fn predicted_sample<S: Store>(
 ) -> u8
     requires left_lt_right { (segment.left < segment.right) × ((segment.right ≤ 22) × ((segment.top < segment.bottom) × (segment.bottom ≤ 22))) }
     requires small { (x ≤ 65535) × (y ≤ 65535) }
-    ensures { result ≡ predicted_from segment (rounding_of rounding) (picture finished.now).sample source plane x y }
+    ensures { result ≡ predicted_from segment (rounding_of rounding) (S.picture finished.now).sample source plane x y }
 {
     match source {
         Source::Nothing => 0,
@@ -41,7 +41,7 @@ fn set_sample<S: Store>(
     prediction: u8,
     residual: i16,
 )
-    ensures { picture working.new ≡ written (picture working.old) plane x y (clipped (pos prediction +ℤ residual)) }
+    ensures { S.picture working.new ≡ written (S.picture working.old) plane x y (clipped (pos prediction +ℤ residual)) }
 {
     working.write(plane, x, y, add_residual(prediction, residual));
 }
@@ -60,7 +60,7 @@ pub fn rebuild_block<S: Store>(
 )
     requires left_lt_right { (segment.left < segment.right) × ((segment.right ≤ 22) × ((segment.top < segment.bottom) × (segment.bottom ≤ 22))) }
     requires place { (left ≤ 1000) × ((left % 8 ≡ 0) × ((top ≤ 1000) × (top % 8 ≡ 0))) }
-    ensures { picture working.new ≡ painted (block_at plane left top) (summed segment (rounding_of rounding) (picture finished.now).sample source residual.now) (picture working.old) }
+    ensures { S.picture working.new ≡ painted (block_at plane left top) (summed segment (rounding_of rounding) (S.picture finished.now).sample source residual.now) (S.picture working.old) }
 {
     for place in 0..64 {
         let x = left + place % 8;

@@ -69,7 +69,7 @@ pub fn rebuild_segment<S: Store, T: Transform>(
     requires ages { segment.bottom * width_of segment ≤ length ages.old }
     requires vectors { segment.bottom * width_of segment ≤ length vectors.old }
     requires marks { segment.bottom * width_of segment ≤ length marks.old }
-    ensures samples { picture working.new ≡ rebuilt (meaning transform.now) segment (rounding_of rounding) (picture finished.now).sample (accepted kind (count_of segment) bytes.now) marks.new (picture working.old) }
+    ensures samples { S.picture working.new ≡ rebuilt (T.meaning transform.now) segment (rounding_of rounding) (S.picture finished.now).sample (accepted kind (count_of segment) bytes.now) marks.new (S.picture working.old) }
     ensures ages { ages.new ≡ set_from (first_cell segment) (ages_of (accepted kind (count_of segment) bytes.now) (drop (first_cell segment) finished_ages.now)) ages.old }
     ensures vectors { vectors.new ≡ set_from (first_cell segment) (vectors_of (width_of segment) (accepted kind (count_of segment) bytes.now)) vectors.old }
     ensures marks { marks.new ≡ set_from (first_cell segment) (marks_of (accepted kind (count_of segment) bytes.now)) marks.old }

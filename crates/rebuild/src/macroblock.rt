@@ -39,7 +39,7 @@ fn source_for(macroblock: &Macroblock, vector: Vector, plane: u8) -> Source
 
 // The results of the transform for a block.
 fn transformed<T: Transform>(transform: &T, quantizer: u8, block: &Block) -> [i16; 64]
-    ensures { (n k : ℕ) → n < 8 → k < 8 → slice_index_or result (8 * k + n) (pos 0) ≡ meaning transform.now (coefficients_of quantizer block.now) n k }
+    ensures { (n k : ℕ) → n < 8 → k < 8 → slice_index_or result (8 * k + n) (pos 0) ≡ T.meaning transform.now (coefficients_of quantizer block.now) n k }
 {
     transform.inverse(&coefficients(quantizer, block.dc, &block.levels))
 }
@@ -54,7 +54,7 @@ fn no_residual() -> [i16; 64]
 // The residual of a block; the transform is called only where there are coefficients.
 fn residual_of<T: Transform>(transform: &T, macroblock: &Macroblock, block: u8) -> [i16; 64]
     requires { block < 6 }
-    ensures { (n k : ℕ) → n < 8 → k < 8 → slice_index_or result (8 * k + n) (pos 0) ≡ residual_of (meaning transform.now) macroblock.now block n k }
+    ensures { (n k : ℕ) → n < 8 → k < 8 → slice_index_or result (8 * k + n) (pos 0) ≡ residual_of (T.meaning transform.now) macroblock.now block n k }
 {
     match macroblock {
         Macroblock::Skipped => no_residual(),
@@ -126,7 +126,7 @@ fn rebuild_coded<S: Store, T: Transform>(
 )
     requires left_lt_right { (segment.left < segment.right) × ((segment.right ≤ 22) × ((segment.top < segment.bottom) × (segment.bottom ≤ 22))) }
     requires place { (column ≤ 22) × (row ≤ 22) }
-    ensures { picture working.new ≡ painted (macroblock_at column row) (coded_sample (meaning transform.now) segment (rounding_of rounding) (picture finished.now).sample macroblock.now vector) (picture working.old) }
+    ensures { S.picture working.new ≡ painted (macroblock_at column row) (coded_sample (T.meaning transform.now) segment (rounding_of rounding) (S.picture finished.now).sample macroblock.now vector) (S.picture working.old) }
 {
     for block in 0..6 {
         let place = place_of(column, row, block);
@@ -149,7 +149,7 @@ fn rebuild_coded<S: Store, T: Transform>(
 // Copies the samples of the macroblock in a column and a row, and no others.
 fn copy_macroblock<S: Store>(finished: &S, working: &mut S, column: u16, row: u16)
     requires { (column ≤ 22) × (row ≤ 22) }
-    ensures { picture working.new ≡ painted (macroblock_at column row) (picture finished.now).sample (picture working.old) }
+    ensures { S.picture working.new ≡ painted (macroblock_at column row) (S.picture finished.now).sample (S.picture working.old) }
 {
     copy_segment(
         finished,
@@ -177,7 +177,7 @@ pub fn rebuild_macroblock<S: Store, T: Transform>(
 )
     requires left_lt_right { (segment.left < segment.right) × ((segment.right ≤ 22) × ((segment.top < segment.bottom) × (segment.bottom ≤ 22))) }
     requires place { (column ≤ 22) × (row ≤ 22) }
-    ensures { picture working.new ≡ painted (macroblock_at column row) (macroblock_sample (meaning transform.now) segment (rounding_of rounding) (picture finished.now).sample macroblock.now vector) (picture working.old) }
+    ensures { S.picture working.new ≡ painted (macroblock_at column row) (macroblock_sample (T.meaning transform.now) segment (rounding_of rounding) (S.picture finished.now).sample macroblock.now vector) (S.picture working.old) }
 {
     match macroblock {
         Macroblock::Skipped => copy_macroblock(finished, working, column, row),

@@ -28,7 +28,7 @@ fn rebuild_row<S: Store, T: Transform>(
     requires left_lt_right { (segment.left < segment.right) × ((segment.right ≤ 22) × ((segment.top < segment.bottom) × (segment.bottom ≤ 22))) }
     requires row { (row ≤ 22) × (first ≤ 65535) }
     requires records { segment.right - segment.left ≤ length (records_of delivery.old) }
-    ensures samples { picture working.new ≡ painted (covers (record { left = segment.left; right = segment.right; top = row; bottom = row + 1 })) (samples_by (meaning transform.now) segment (rounding_of rounding) (picture finished.now).sample (records_of delivery.old) (drop first vectors.now) (column_at segment)) (picture working.old) }
+    ensures samples { S.picture working.new ≡ painted (covers (record { left = segment.left; right = segment.right; top = row; bottom = row + 1 })) (samples_by (T.meaning transform.now) segment (rounding_of rounding) (S.picture finished.now).sample (records_of delivery.old) (drop first vectors.now) (column_at segment)) (S.picture working.old) }
     ensures records { records_of delivery.new ≡ drop (segment.right - segment.left) (records_of delivery.old) }
 {
     for column in segment.left..segment.right {
@@ -63,7 +63,7 @@ pub(crate) fn rebuild_samples<S: Store, T: Transform>(
 )
     requires left_lt_right { (segment.left < segment.right) × ((segment.right ≤ 22) × ((segment.top < segment.bottom) × (segment.bottom ≤ 22))) }
     requires records { ((segment.bottom - segment.top) * (segment.right - segment.left) ≤ length (records_of delivery)) × (start ≤ 5000) }
-    ensures { picture working.new ≡ painted (covers segment) (samples_by (meaning transform.now) segment (rounding_of rounding) (picture finished.now).sample (records_of delivery.entry) (drop start vectors.now) (cell_at segment)) (picture working.old) }
+    ensures { S.picture working.new ≡ painted (covers segment) (samples_by (T.meaning transform.now) segment (rounding_of rounding) (S.picture finished.now).sample (records_of delivery.entry) (drop start vectors.now) (cell_at segment)) (S.picture working.old) }
 {
     let columns = (segment.right - segment.left) as usize;
     for row in segment.top..segment.bottom {

@@ -23,7 +23,7 @@ const NEVER: u8 = 255;
 
 // Sets the samples of a segment that was not delivered: grey in an INTRA picture, those of the finished picture in an INTER one.
 fn fill_gap<S: Store>(finished: &S, working: &mut S, kind: PictureKind, segment: Segment)
-    ensures { picture working.new ≡ painted (covers segment) (fill_sample kind (picture finished.now)) (picture working.old) }
+    ensures { S.picture working.new ≡ painted (covers segment) (fill_sample kind (S.picture finished.now)) (S.picture working.old) }
 {
     match kind {
         PictureKind::Intra => fill_segment(working, segment, GREY),
@@ -39,7 +39,7 @@ fn fill_if_missing<S: Store>(
     kind: PictureKind,
     segment: Segment,
 )
-    ensures { picture working.new ≡ painted (λ q u v. missing && covers segment q u v) (fill_sample kind (picture finished.now)) (picture working.old) }
+    ensures { S.picture working.new ≡ painted (λ q u v. missing && covers segment q u v) (fill_sample kind (S.picture finished.now)) (S.picture working.old) }
 {
     if missing {
         fill_gap(finished, working, kind, segment);
@@ -55,8 +55,8 @@ fn fill_missing<S: Store>(
     layout: u32,
     accepted: u32,
 )
-    requires { ((picture working.old).wide ≡ columns_of format) × ((picture working.old).high ≡ rows_of format) }
-    ensures { picture working.new ≡ filled_picture kind layout accepted (picture finished.now) (picture working.old) }
+    requires { ((S.picture working.old).wide ≡ columns_of format) × ((S.picture working.old).high ≡ rows_of format) }
+    ensures { S.picture working.new ≡ filled_picture kind layout accepted (S.picture finished.now) (S.picture working.old) }
 {
     for number in 0..format.segments(layout) {
         let segment = format.segment(layout, number);
@@ -128,8 +128,8 @@ fn finish<S: Store>(
     layout: u32,
     accepted: u32,
 )
-    requires { fits format (held_in picture memory.old) ≡ true }
-    ensures { held_in picture memory.new ≡ picture_closed format kind layout accepted (held_in picture memory.old) }
+    requires { fits format (held_in S.picture memory.old) ≡ true }
+    ensures { held_in S.picture memory.new ≡ picture_closed format kind layout accepted (held_in S.picture memory.old) }
 {
     let Memory {
         finished,
@@ -151,8 +151,8 @@ impl Slip {
         self,
         memory: &mut Memory<S>,
     ) -> Result<(Reel, u32), (Slip, PictureFault)>
-        ensures answer { result ≡ closed self (judge_closing (fits self.format (held_in picture memory.old))) }
-        ensures memory { held_in picture memory.new ≡ held_closed self (judge_closing (fits self.format (held_in picture memory.old))) (held_in picture memory.old) }
+        ensures answer { result ≡ closed self (judge_closing (fits self.format (held_in S.picture memory.old))) }
+        ensures memory { held_in S.picture memory.new ≡ held_closed self (judge_closing (fits self.format (held_in S.picture memory.old))) (held_in S.picture memory.old) }
         ensures back { MatchResult result (λ p. p.0.format ≡ self.format) (λ p. p.0 ≡ self) }
     {
         if !memory.fits(self.format) {

@@ -58,7 +58,7 @@ fn rebuild_in<S: Store, T: Transform>(
     requires ages { segment.bottom * width_of segment ≤ vec_len memory.old.working_ages }
     requires vectors { segment.bottom * width_of segment ≤ vec_len memory.old.vectors }
     requires marks { segment.bottom * width_of segment ≤ vec_len memory.old.marks }
-    ensures { held_in picture memory.new ≡ segment_rebuilt (meaning transform.now) segment rounding (accepted kind (count_of segment) bytes.now) (held_in picture memory.old) }
+    ensures { held_in S.picture memory.new ≡ segment_rebuilt (T.meaning transform.now) segment rounding (accepted kind (count_of segment) bytes.now) (held_in S.picture memory.old) }
 {
     let Memory {
         finished,
@@ -110,11 +110,11 @@ impl Slip {
         segment: u32,
         bytes: &[u8],
     ) -> (Slip, Result<Delivered, PictureFault>)
-        ensures slip { result.0 ≡ slip_after self segment (judged self (held_in picture memory.old) segment bytes.now) }
-        ensures answer { result.1 ≡ counted bytes.now (judged self (held_in picture memory.old) segment bytes.now) }
-        ensures memory { held_in picture memory.new ≡ held_after (meaning transform.now) self segment (judged self (held_in picture memory.old) segment bytes.now) (held_in picture memory.old) }
+        ensures slip { result.0 ≡ slip_after self segment (judged self (held_in S.picture memory.old) segment bytes.now) }
+        ensures answer { result.1 ≡ counted bytes.now (judged self (held_in S.picture memory.old) segment bytes.now) }
+        ensures memory { held_in S.picture memory.new ≡ held_after (T.meaning transform.now) self segment (judged self (held_in S.picture memory.old) segment bytes.now) (held_in S.picture memory.old) }
         ensures format { result.0.format ≡ self.format }
-        ensures size { fits self.format (held_in picture memory.new) ≡ fits self.format (held_in picture memory.old) }
+        ensures size { fits self.format (held_in S.picture memory.new) ≡ fits self.format (held_in S.picture memory.old) }
     {
         let counts = match self.check(memory.fits(self.format), segment, bytes) {
             Ok(counts) => counts,

@@ -20,7 +20,7 @@ pub struct Memory<S> {
 
 // Whether a store has exactly the size of a format.
 pub(crate) fn fits_store<S: Store>(format: Format, store: &S) -> bool
-    ensures { result ≡ fits_store format (picture store.now) }
+    ensures { result ≡ fits_store format (S.picture store.now) }
 {
     store.columns() == format.columns() && store.rows() == format.rows()
 }
@@ -35,7 +35,7 @@ pub(crate) fn fits_table<T>(format: Format, cells: &[T]) -> bool
 impl<S: Store> Memory<S> {
     // Whether all six parts have exactly the size of a format.
     pub fn fits(&self, format: Format) -> bool
-        ensures { result ≡ fits format (held_in picture self.now) }
+        ensures { result ≡ fits format (held_in S.picture self.now) }
     {
         fits_store(format, &self.finished)
             && fits_table(format, &self.finished_ages)

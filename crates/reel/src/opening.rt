@@ -116,9 +116,9 @@ impl Reel {
         rounding: u32,
         layout: u32,
     ) -> Result<(Slip, u32), (Reel, PictureFault)>
-        ensures answer { result ≡ opened self kind rounding layout (judge_opening (fits self.format (held_in picture memory.now)) self.format self.pictures self.finished kind rounding layout) }
+        ensures answer { result ≡ opened self kind rounding layout (judge_opening (fits self.format (held_in S.picture memory.now)) self.format self.pictures self.finished kind rounding layout) }
         ensures back { MatchResult result (λ p. p.0.format ≡ self.format) (λ p. p.0 ≡ self) }
-        ensures fit { IfOk result (λ p. fits p.0.format (held_in picture memory.now) ≡ true) }
+        ensures fit { IfOk result (λ p. fits p.0.format (held_in S.picture memory.now) ≡ true) }
     {
         if let Err(fault) = self.check_opening(memory.fits(self.format), kind, rounding, layout) {
             return Err((self, fault));

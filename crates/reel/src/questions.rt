@@ -20,7 +20,7 @@ fn read_sample<S: Store>(
     across: u32,
     down: u32,
 ) -> Result<u8, PictureFault>
-    ensures { result ≡ shown (judge_sample (fits_store format (picture finished.now)) format layout plane across down) ((picture finished.now).sample plane across down) }
+    ensures { result ≡ shown (judge_sample (fits_store format (S.picture finished.now)) format layout plane across down) ((S.picture finished.now).sample plane across down) }
 {
     if !fits_store(format, finished) {
         return Err(PictureFault::Size);
@@ -83,7 +83,7 @@ impl Reel {
         across: u32,
         down: u32,
     ) -> Result<u8, PictureFault>
-        ensures { result ≡ shown (judge_sample (fits_store self.now.format (picture finished.now)) self.now.format self.now.finished plane across down) ((picture finished.now).sample plane across down) }
+        ensures { result ≡ shown (judge_sample (fits_store self.now.format (S.picture finished.now)) self.now.format self.now.finished plane across down) ((S.picture finished.now).sample plane across down) }
     {
         read_sample(self.format, self.finished, finished, plane, across, down)
     }
@@ -105,7 +105,7 @@ impl Slip {
         across: u32,
         down: u32,
     ) -> Result<u8, PictureFault>
-        ensures { result ≡ shown (judge_sample (fits_store self.now.format (picture finished.now)) self.now.format self.now.finished plane across down) ((picture finished.now).sample plane across down) }
+        ensures { result ≡ shown (judge_sample (fits_store self.now.format (S.picture finished.now)) self.now.format self.now.finished plane across down) ((S.picture finished.now).sample plane across down) }
     {
         read_sample(self.format, self.finished, finished, plane, across, down)
     }

@@ -77,8 +77,8 @@ pub fn step<S: Store, T: Transform>(
     transform: &T,
     call: &Call,
 ) -> (Stage, Answer)
-    ensures state { state_of result.0 (held_in picture memory.new) ≡ stepped (setting_at stage (meaning transform.now) (held_in picture memory.old)) (state_of stage (held_in picture memory.old)) (call_of call.now) }
-    ensures answer { result.1 ≡ reply (setting_at stage (meaning transform.now) (held_in picture memory.old)) (state_of stage (held_in picture memory.old)) (call_of call.now) }
+    ensures state { state_of result.0 (held_in S.picture memory.new) ≡ stepped (setting_at stage (T.meaning transform.now) (held_in S.picture memory.old)) (state_of stage (held_in S.picture memory.old)) (call_of call.now) }
+    ensures answer { result.1 ≡ reply (setting_at stage (T.meaning transform.now) (held_in S.picture memory.old)) (state_of stage (held_in S.picture memory.old)) (call_of call.now) }
     ensures format { format_of result.0 ≡ format_of stage }
     ensures unspent { spent_of stage ≡ false → spent_of result.0 ≡ false }
 {
@@ -138,9 +138,9 @@ pub fn replay<S: Store, T: Transform>(
     calls: &[Call],
     heap: Global,
 ) -> Result<(Stage, Vec<Answer>), Stage>
-    ensures runs { MatchResult result (λ p. Replayed (meaning transform.now) stage (held_in picture memory.old) (calls_of calls.now) p.0 (held_in picture memory.new) p.1.items) (λ s. (s ≡ stage) × (memory.new ≡ memory.old)) }
+    ensures runs { MatchResult result (λ p. Replayed (T.meaning transform.now) stage (held_in S.picture memory.old) (calls_of calls.now) p.0 (held_in S.picture memory.new) p.1.items) (λ s. (s ≡ stage) × (memory.new ≡ memory.old)) }
     ensures format { format_of (stage_in result) ≡ format_of stage }
-    ensures size { fits (format_of stage) (held_in picture memory.new) ≡ fits (format_of stage) (held_in picture memory.old) }
+    ensures size { fits (format_of stage) (held_in S.picture memory.new) ≡ fits (format_of stage) (held_in S.picture memory.old) }
     ensures law { LawOverRuns }
 {
     let mut answers = match Vec::with_capacity(heap, calls.len()) {

@@ -28,7 +28,7 @@ pub fn sum_table(cells: &[u8]) -> u32
 
 // A sum with the samples of one row of a plane, from left to right.
 fn sum_row<S: Store>(sum: u32, store: &S, plane: u8, down: usize, width: usize) -> u32
-    ensures { result ≡ row_sum ((picture store.now).sample plane) down width sum }
+    ensures { result ≡ row_sum ((S.picture store.now).sample plane) down width sum }
 {
     let mut sum = sum;
     for across in 0..width {
@@ -39,7 +39,7 @@ fn sum_row<S: Store>(sum: u32, store: &S, plane: u8, down: usize, width: usize) 
 
 // The sum of a plane, row by row from the top.
 pub fn sum_plane<S: Store>(store: &S, plane: u8) -> u32
-    ensures { result ≡ plane_sum (picture store.now) plane }
+    ensures { result ≡ plane_sum (S.picture store.now) plane }
 {
     let mut sum = NONE;
     let side = side_of(plane);

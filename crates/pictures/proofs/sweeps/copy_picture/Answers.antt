@@ -5,7 +5,7 @@ use Rattle.pictures.proofs.sweeps.copy_picture.Goals as goal
 pub returns : goal.returns
 returns g c =
     let f = g.S.Store.picture c.args.to.now in
-    let all = c.copy-segment.ensures
+    let all = c.copy_segment.ensures
     ∙ alike _ _ _ _ (λ q u v h. whole_covered f c.columns.result c.rows.result q u v c.columns.ensures c.rows.ensures h) in
     record {
       after = all;

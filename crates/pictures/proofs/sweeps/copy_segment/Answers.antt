@@ -11,7 +11,7 @@ loop-plane-preserved g c =
     let p = c.loop-plane.plane in
     let s = c.args.segment in
     both (λ q u v. ltb q p && covers s q u v) (λ q u v. eqb p q && covers s q u v) _ (g.S.Store.picture c.args.from.now).sample _ (g.S.Store.picture c.loop-plane.to) _
-    c.loop-plane.invariant c.copy-plane.ensures (λ q u v. planes_more (covers s q u v) p q)
+    c.loop-plane.invariant c.copy_plane.ensures (λ q u v. planes_more (covers s q u v) p q)
 
 pub returns : goal.returns
 returns g c =

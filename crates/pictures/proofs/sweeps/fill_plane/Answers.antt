@@ -10,10 +10,10 @@ pub loop-down-preserved : goal.loop-down-preserved
 loop-down-preserved g c =
     let p = c.args.plane in
     let y = c.loop-down.down in
-    let s = c.side-of-side.result in (
+    let s = c.side_of-side.result in (
       both (block p (c.args.segment.left * s) (c.args.segment.right * s) (c.args.segment.top * s) y) (span p y (c.args.segment.left * s) (c.args.segment.right * s)) _
           (λ _ _ _. c.args.value) _ (g.S.Store.picture c.loop-down.store) _
-          c.loop-down.invariant.0 c.fill-row.ensures (λ q u v. block_more p _ _ (c.args.segment.top * s) y q u v c.loop-down.auto.down),
+          c.loop-down.invariant.0 c.fill_row.ensures (λ q u v. block_more p _ _ (c.args.segment.top * s) y q u v c.loop-down.auto.down),
       omega (arith, c.loop-down.invariant.1),
     )
 
@@ -21,7 +21,7 @@ pub returns : goal.returns
 returns g c =
     let y = c.loop-down.down in
     let s = c.args.segment in
-    let e = c.side-of-side.ensures in
+    let e = c.side_of-side.ensures in
     c.loop-down.invariant.0
     ∙ ap (λ n. painted (block c.args.plane (s.left * n) (s.right * n) (s.top * n) y) (λ _ _ _. c.args.value) (g.S.Store.picture c.args.store.now)) e
     ∙ alike _ _ _ _ (λ q u v h. block_all s c.args.plane y q u v (rw (← e) c.loop-down.auto.down) (rw (← e) (omega arith)) (rw (← e) c.loop-down.invariant.1))

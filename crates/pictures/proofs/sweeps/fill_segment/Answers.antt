@@ -11,7 +11,7 @@ loop-plane-preserved g c =
     let p = c.loop-plane.plane in
     let s = c.args.segment in
     both (λ q u v. ltb q p && covers s q u v) (λ q u v. eqb p q && covers s q u v) _ (λ _ _ _. c.args.value) _ (g.S.Store.picture c.loop-plane.store) _
-    c.loop-plane.invariant c.fill-plane.ensures (λ q u v. planes_more (covers s q u v) p q)
+    c.loop-plane.invariant c.fill_plane.ensures (λ q u v. planes_more (covers s q u v) p q)
 
 pub returns : goal.returns
 returns g c =
