@@ -5,10 +5,10 @@ use Rattle.stores.proofs.InBytes.{run_kept}
 use Rattle.stores.proofs.bytes.run_at.Goals as goal
 
 wide : (c : goal.After-min) → c.min.result ≡ min c.args.right (c.args.columns * side c.args.plane)
-wide c = c.min.ensures ∙ ap (λ s. min c.args.right (c.args.columns * s)) c.side-of.ensures
+wide c = c.min.ensures ∙ ap (λ s. min c.args.right (c.args.columns * s)) c.side_of.ensures
 
-pub overflow-sub-result : goal.overflow-sub-result
-overflow-sub-result c = omega (arith, (within _ _ _ _ _ c.in-Some.ensures.0).across, wide c)
+pub overflow_sub-result : goal.overflow_sub-result
+overflow_sub-result c = omega (arith, (within _ _ _ _ _ c.in-Some.ensures.0).across, wide c)
 
 pub returns-in-Some : goal.returns-in-Some
 returns-in-Some c =

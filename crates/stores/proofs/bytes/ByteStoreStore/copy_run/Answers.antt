@@ -1,4 +1,4 @@
-use Rattle.std.proofs.Common.{◌≡◌, ℕ, ◌+◌, ◌*◌, ◌<◌, ◌≤◌, cond, ◌&&◌, ltb, leb, List, length, get_or, vec_items, unwrap_or, ap, ◌∙◌, arith}
+use Rattle.std.proofs.Common.{ℕ, ◌+◌, ◌*◌, ◌≤◌, cond, ◌&&◌, ltb, leb, List, length, get_or, vec_items, unwrap_or, ap, ◌∙◌, arith}
 use Rattle.std.proofs.lemmas.List.{with_items_is}
 use Rattle.std.proofs.lemmas.Bool.{cond-false}
 use Rattle.pictures.proofs.Painting.{read_or_zero, span_one}
@@ -17,7 +17,7 @@ returns-in-Some c =
     let others = c.args.other.now in
     let at = c.in-Some.at in
     let count = c.in-Some.count in
-    let ys = c.copy-part.new.to in
+    let ys = c.copy_part.new.to in
     let same-columns = c.if-self-other.true in
     let same_rows = c.if-self-other-2.true in
     let room : mine.columns * mine.rows * 384 ≤ length (vec_items mine.memory) = omega (arith, mine.memory.ok.0, mine.enough) in
@@ -26,12 +26,12 @@ returns-in-Some c =
     record {
       next = (omega (arith, run.some), run.ends);
       after =
-          ap (bytes_seen mine.columns mine.rows) (with_items_is mine.memory ys (c.copy-part.auto.to ∙ c.deref-mut.ensures.len))
+          ap (bytes_seen mine.columns mine.rows) (with_items_is mine.memory ys (c.copy_part.auto.to ∙ c.deref_mut.ensures.len))
           ∙ run_copied mine.columns mine.rows others.columns others.rows c.args.plane c.args.across c.args.down c.args.right at count
           (vec_items mine.memory) (vec_items others.memory) ys same-columns same_rows run room room'
-          (λ k d. c.copy-part.ensures k d
-          ∙ ap (λ xs. copied at count k d xs c.deref-mut.result.now) c.deref.ensures.value
-          ∙ ap (λ zs. copied at count k d (vec_items others.memory) zs) c.deref-mut.ensures.value);
+          (λ k d. c.copy_part.ensures k d
+          ∙ ap (λ xs. copied at count k d xs c.deref_mut.result.now) c.deref.ensures.value
+          ∙ ap (λ zs. copied at count k d (vec_items others.memory) zs) c.deref_mut.ensures.value);
     }
 
 pub returns : goal.returns
@@ -41,8 +41,8 @@ returns c =
     let p = c.args.plane in
     let x = c.args.across in
     let y = c.args.down in
-    let value = c.unwrap-or-value.ensures ∙ ap (λ o. unwrap_or o 0) c.read.ensures ∙ read_or_zero f p x y (λ e. cond-false _ _ _ e) in
+    let value = c.unwrap_or-value.ensures ∙ ap (λ o. unwrap_or o 0) c.read.ensures ∙ read_or_zero f p x y (λ e. cond-false _ _ _ e) in
     record {
       next = (omega arith, omega arith);
-      after = span_one f.sample _ _ p x y c.unwrap-or-value.result c.write.ensures.after value;
+      after = span_one f.sample _ _ p x y c.unwrap_or-value.result c.write.ensures.after value;
     }

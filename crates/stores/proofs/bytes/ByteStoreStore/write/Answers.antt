@@ -1,4 +1,4 @@
-use Rattle.std.proofs.Common.{◌≡◌, ◌<◌, length, set, vec_items, sym, refl, ◌∙◌, arith}
+use Rattle.std.proofs.Common.{◌<◌, length, set, vec_items, sym, arith}
 use Rattle.pictures.proofs.Addresses.{writes, writes_nothing}
 use Rattle.stores.specs.Bytes.{byte_address, byte_at}
 use Rattle.stores.proofs.InBytes.{bytes_apart, byte_set}

@@ -1,4 +1,4 @@
-use Rattle.std.proofs.Common.{◌≡◌, ◌+◌, ◌<◌, ◌≤◌, length, get_or, vec_items, unwrap_or, ap, ◌∙◌, arith}
+use Rattle.std.proofs.Common.{◌≡◌, ◌<◌, length, get_or, vec_items, unwrap_or, ap, ◌∙◌, arith}
 use Rattle.std.proofs.lemmas.List.{get_or_read}
 use Rattle.std.proofs.lemmas.Bool.{cond-false}
 use Rattle.pictures.proofs.Painting.{read_or_zero, span_one}
@@ -30,8 +30,8 @@ returns c =
     let p = c.args.plane in
     let x = c.args.across in
     let y = c.args.down in
-    let value = c.unwrap-or-value.ensures ∙ ap (λ o. unwrap_or o 0) c.read.ensures ∙ read_or_zero f p x y (λ e. cond-false _ _ _ e) in
+    let value = c.unwrap_or-value.ensures ∙ ap (λ o. unwrap_or o 0) c.read.ensures ∙ read_or_zero f p x y (λ e. cond-false _ _ _ e) in
     record {
       next = (omega arith, omega arith);
-      after = span_one f.sample _ _ p x y c.unwrap-or-value.result c.write.ensures.after value;
+      after = span_one f.sample _ _ p x y c.unwrap_or-value.result c.write.ensures.after value;
     }

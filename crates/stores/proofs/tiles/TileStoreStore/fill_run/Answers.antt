@@ -1,4 +1,4 @@
-use Rattle.std.proofs.Common.{◌≡◌, ◌+◌, ◌<◌, ◌≤◌, length, vec_items, refl, arith}
+use Rattle.std.proofs.Common.{◌<◌, length, vec_items, refl, arith}
 use Rattle.pictures.proofs.Painting.{span_one}
 use Rattle.stores.proofs.InTiles.{word_filled}
 use Rattle.stores.proofs.tiles.TileStoreStore.fill_run.Goals as goal
@@ -12,7 +12,7 @@ returns-in-Some c =
     record {
       next = (omega arith, at.ends);
       after = word_filled mine.columns mine.rows c.args.plane c.args.across c.args.down c.args.right w
-          (vec_items mine.memory) c.from-be-bytes.result c.args.value at lt (omega (arith, c.ranges.value)) c.from-be-bytes.ensures;
+          (vec_items mine.memory) c.from_be_bytes.result c.args.value at lt (omega (arith, c.ranges.value)) c.from_be_bytes.ensures;
     }
 
 pub returns : goal.returns

@@ -1,4 +1,4 @@
-use Rattle.std.proofs.Common.{◌≡◌, ◌/◌, ◌%◌, ◌<◌, length, get_or, set, vec_items, sym, refl, ap, ◌∙◌, arith}
+use Rattle.std.proofs.Common.{◌≡◌, ◌/◌, ◌%◌, ◌<◌, length, get_or, set, vec_items, sym, ap, ◌∙◌, arith}
 use Rattle.std.proofs.lemmas.List.{get_or_read}
 use Rattle.pictures.proofs.Addresses.{writes, writes_nothing}
 use Rattle.stores.specs.Tiles.{tile_address, four, lane_at}
@@ -13,11 +13,11 @@ returns-in-Some c =
     let value = c.args.value in
     let lt : at / 4 < length words = omega (arith, c.args.self.now.memory.ok.0, c.args.self.now.enough, found.2) in
     let word : c.index.result.now ≡ get_or words (at / 4) 0 = get_or_read words (at / 4) _ lt c.index.ensures 0 in
-    let new : c.from-be-bytes.result ≡ joined (set (four (get_or words (at / 4) 0)) (at % 4) value) =
-    c.from-be-bytes.ensures ∙ ap (λ bytes. joined (set bytes (at % 4) value)) (c.to-be-bytes-four.ensures ∙ ap four word) in
+    let new : c.from_be_bytes.result ≡ joined (set (four (get_or words (at / 4) 0)) (at % 4) value) =
+    c.from_be_bytes.ensures ∙ ap (λ bytes. joined (set bytes (at % 4) value)) (c.to_be_bytes-four.ensures ∙ ap four word) in
     record {
       answer = sym found.0;
-      after = writes _ _ (tile_address c.args.self.now.columns) (tiles_apart _ _) (lane_at words) (lane_at (set words (at / 4) c.from-be-bytes.result))
+      after = writes _ _ (tile_address c.args.self.now.columns) (tiles_apart _ _) (lane_at words) (lane_at (set words (at / 4) c.from_be_bytes.result))
           c.args.plane c.args.across c.args.down value found.0
           (λ a. rw (← found.1, new) (lane_set words at value (omega (arith, c.ranges.value)) lt a));
     }
