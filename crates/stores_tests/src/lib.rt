@@ -15,7 +15,7 @@ pub fn clear_cells(
     count: usize,
 )
     ensures ages { (k d : ℕ) → slice_index_or ages.new k d ≡ (if nat_le first k && (nat_lt k (first + count) && nat_lt k (length ages.old)) then 255 else slice_index_or ages.old k d) }
-    ensures vectors { (k : ℕ) (d : ℤ × ℤ) → slice_index_or vectors.new k d ≡ (if nat_le first k && (nat_lt k (first + count) && nat_lt k (length vectors.old)) then pos 0, pos 0 else slice_index_or vectors.old k d) }
+    ensures vectors { (k : ℕ) (d : ℤ × ℤ) → slice_index_or vectors.new k d ≡ (if nat_le first k && (nat_lt k (first + count) && nat_lt k (length vectors.old)) then (pos 0, pos 0) else slice_index_or vectors.old k d) }
     ensures marks { (k : ℕ) (d : Option ℕ) → slice_index_or marks.new k d ≡ (if nat_le first k && (nat_lt k (first + count) && nat_lt k (length marks.old)) then None else slice_index_or marks.old k d) }
 {
     tables::fill_part(ages, first, count, 255);
