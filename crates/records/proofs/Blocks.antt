@@ -1,5 +1,5 @@
 -- One block after another.
-use Rattle.std.proofs.Common.{◌≡◌, ℕ, zero, suc, ◌+◌, ◌-◌, ◌<◌, ◌≤◌, Bool, List, [], ◌∷◌, ◌++◌, length, take, set, Ok, Err, Result, sym, refl, ap, ◌∙◌, append-nil, arith}
+use Rattle.std.proofs.Common.{◌≡◌, ℕ, zero, suc, ◌+◌, ◌-◌, ◌<◌, ◌≤◌, Bool, List, [], ◌∷◌, length, take, set, Ok, Err, Result, append-nil, arith}
 use Rattle.std.proofs.lemmas.List.{take_all, take_more_set}
 use Rattle.records.specs.declared.faults.BlockFault.{BlockFault}
 use Rattle.records.specs.declared.faults.MacroblockFault.TheVariants.{Block as in_block}

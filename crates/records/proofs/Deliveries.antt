@@ -1,5 +1,5 @@
 -- One macroblock after another, counted as the check counts them.
-use Rattle.std.proofs.Common.{◌≡◌, ℕ, zero, suc, ◌+◌, ◌-◌, ◌/◌, ◌<◌, ◌≤◌, Bool, true, false, cond, List, [], ◌∷◌, length, get_or, is_ok, IfOk, Ok, Err, Result, sym, refl, ap, ◌∙◌, add-zero, add_assoc, arith}
+use Rattle.std.proofs.Common.{◌≡◌, ℕ, zero, suc, ◌+◌, ◌-◌, ◌/◌, ◌<◌, ◌≤◌, true, cond, List, [], ◌∷◌, length, is_ok, IfOk, Ok, Err, Result, refl, ap, add-zero, arith}
 use Rattle.records.specs.declared.faults.MacroblockFault.{MacroblockFault}
 use Rattle.records.specs.declared.faults.SegmentFault.{SegmentFault}
 use Rattle.records.specs.declared.faults.SegmentFault.TheVariants.{Macroblock as inMacroblock, Word as inSegment}

@@ -1,5 +1,5 @@
 -- Lists that are read piece by piece, and what is sure of an answer.
-use Rattle.std.proofs.Common.{◌≡◌, List, [], ◌∷◌, ◌++◌, IfOk, Ok, Err, Result, sym, refl, ap, append_assoc}
+use Rattle.std.proofs.Common.{◌≡◌, List, [], ◌++◌, IfOk, Ok, Err, Result, sym, refl, ap, append_assoc}
 use Rattle.records.specs.Reading.{State, and_then}
 use Rattle.records.specs.Macroblocks.{after}
 

@@ -1,5 +1,5 @@
 -- One word after another, and one coefficient after another.
-use Rattle.std.proofs.Common.{◌≡◌, ℕ, ◌+◌, ◌<◌, true, false, List, [], ◌∷◌, length, set, ℤ, Ok, Err, Result, sym, refl, ap, ◌∙◌, arith, eq-eqb, ne_eqb}
+use Rattle.std.proofs.Common.{◌≡◌, ℕ, ◌+◌, ◌<◌, true, false, List, [], ◌∷◌, length, set, ℤ, Ok, Err, Result, sym, ap, arith, eq-eqb, ne_eqb}
 use Rattle.records.specs.declared.faults.Place.{Place}
 use Rattle.records.specs.declared.faults.WordFault.{WordFault}
 use Rattle.records.specs.declared.faults.WordFault.TheVariants.{Unnamed}

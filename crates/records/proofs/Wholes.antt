@@ -1,5 +1,5 @@
 -- Accepted records are whole: one for each macroblock, and all INTRA in an INTRA picture.
-use Rattle.std.proofs.Common.{◌≡◌, ℕ, zero, suc, ◌+◌, ◌<◌, Bool, true, false, List, [], ◌∷◌, length, get_or, IfOk, Some, None, Ok, Err, Option, Result, sym, refl, ap, ◌∙◌, arith}
+use Rattle.std.proofs.Common.{◌≡◌, ℕ, zero, suc, ◌+◌, ◌<◌, Bool, true, false, List, [], ◌∷◌, IfOk, Some, None, Ok, Err, Option, Result, refl, ap, arith}
 use Rattle.std.proofs.lemmas.Result.{IfOk-weaker}
 use Rattle.records.specs.declared.faults.MacroblockFault.{MacroblockFault}
 use Rattle.records.specs.declared.faults.SegmentFault.{SegmentFault}

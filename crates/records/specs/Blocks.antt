@@ -1,5 +1,5 @@
 -- The words of a block: the code of the first coefficient where it is INTRA, and coefficients where the pattern has its bit.
-use Rattle.std.specs.Prelude.{ℕ, ◌+◌, ◌-◌, ◌/◌, ◌%◌, ◌^◌, Bool, true, false, cond, not, ◌||◌, List, [], ◌∷◌, replicate, ℤ, pos, Some, None, Ok, Err, Option, Result, ◌==◌, nat_le, slice_set}
+use Rattle.std.specs.Prelude.{ℕ, ◌+◌, ◌-◌, ◌/◌, ◌%◌, ◌^◌, Bool, cond, not, ◌||◌, List, [], ◌∷◌, replicate, ℤ, pos, Some, None, Ok, Err, Option, Result, ◌==◌, nat_le, slice_set}
 use Rattle.records.specs.declared.faults.Place.{Place}
 use Rattle.records.specs.declared.faults.WordFault.TheVariants.{Missing}
 use Rattle.records.specs.declared.faults.BlockFault.{BlockFault}

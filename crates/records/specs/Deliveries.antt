@@ -1,5 +1,5 @@
 -- A delivery: the macroblocks of a segment in raster order, and no word after them.
-use Rattle.std.specs.Prelude.{◌≡◌, ℕ, zero, suc, ◌+◌, ◌-◌, ◌/◌, ◌%◌, ◌<◌, Bool, true, false, cond, List, [], ◌∷◌, length, Ok, Err, Result, ◌==◌, slice_index_or}
+use Rattle.std.specs.Prelude.{◌≡◌, ℕ, zero, suc, ◌+◌, ◌/◌, ◌%◌, ◌<◌, Bool, true, false, cond, List, [], ◌∷◌, length, Ok, Err, Result, ◌==◌, slice_index_or}
 use Rattle.records.specs.declared.faults.WordFault.{WordFault}
 use Rattle.records.specs.declared.faults.WordFault.TheVariants.{ByteCount}
 use Rattle.records.specs.declared.faults.SegmentFault.{SegmentFault}

@@ -1,5 +1,5 @@
 -- The words of a macroblock: a head, one vector if it is INTER, and six blocks unless it is skipped.
-use Rattle.std.specs.Prelude.{ℕ, zero, suc, ◌+◌, Bool, true, false, cond, ◌&&◌, List, [], ◌∷◌, ◌++◌, ℤ, pos, ◌-ℤ◌, Some, None, Ok, Err, Option, Result, ◌==◌, nat_lt}
+use Rattle.std.specs.Prelude.{ℕ, zero, suc, ◌+◌, Bool, true, false, cond, ◌&&◌, List, [], ◌∷◌, ◌++◌, pos, ◌-ℤ◌, Some, None, Ok, Err, Option, Result, ◌==◌, nat_lt}
 use Rattle.records.specs.declared.faults.Place.{Place}
 use Rattle.records.specs.declared.faults.MacroblockFault.{MacroblockFault}
 use Rattle.records.specs.declared.faults.MacroblockFault.TheVariants.{Word, Block as in_block, Head as badHead}

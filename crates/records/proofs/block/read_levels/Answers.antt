@@ -5,15 +5,15 @@ use Rattle.records.specs.Reading.{state_of}
 use Rattle.records.proofs.Turns.{missing, refused, ended, goes_on, shorter}
 use Rattle.records.proofs.block.read_levels.Goals as goal
 
-pub returns-in-err-word : goal.returns-in-err-word
-returns-in-err-word c =
-    let p = err_from_is_err_and c.from-residual.result c.from-residual.ensures.1 in
-    rw (p.1, p.2) (sym (missing _ _ _ (state_of c.loop-word.words).0 _ c.loop-word.from c.loop-word.levels _ c.place-place.ensures c.in-err-word.ensures) ∙ c.loop-word.invariant.0)
+pub returns-in_err-word : goal.returns-in_err-word
+returns-in_err-word c =
+    let p = err_from_is_err_and c.from_residual.result c.from_residual.ensures.1 in
+    rw (p.1, p.2) (sym (missing _ _ _ (state_of c.loop-word.words).0 _ c.loop-word.from c.loop-word.levels _ c.place-place.ensures c.in_err-word.ensures) ∙ c.loop-word.invariant.0)
 
-pub returns-in-err-found : goal.returns-in-err-found
-returns-in-err-found c =
-    let p = err_from_is_err_and c.from-residual-in-err-found.result c.from-residual-in-err-found.ensures.1 in
-    rw (p.1, p.2) (sym (refused _ _ _ (state_of c.loop-word.words).0 _ c.loop-word.from c.loop-word.levels _ _ _ c.place-place.ensures c.in-ok-word.ensures c.in-err-found.ensures.value) ∙ c.loop-word.invariant.0)
+pub returns-in_err-found : goal.returns-in_err-found
+returns-in_err-found c =
+    let p = err_from_is_err_and c.from_residual-in_err-found.result c.from_residual-in_err-found.ensures.1 in
+    rw (p.1, p.2) (sym (refused _ _ _ (state_of c.loop-word.words).0 _ c.loop-word.from c.loop-word.levels _ _ _ c.place-place.ensures c.in_ok-word.ensures c.in_err-found.ensures.value) ∙ c.loop-word.invariant.0)
 
 pub returns-then-found : goal.returns-then-found
 returns-then-found c =

@@ -1,4 +1,4 @@
-use Rattle.std.proofs.Common.{◌≡◌, ◌≤◌, Bool, true, false, cond, sym, refl, ap, ◌∙◌, arith, rules}
+use Rattle.std.proofs.Common.{◌≡◌, ◌≤◌, Bool, true, false, cond, sym, refl, ap, ◌∙◌, arith}
 use mir.Val.{bool_byte}
 use Rattle.std.proofs.lemmas.Result.{err_from_is_err_and}
 use Rattle.records.specs.Reading.{state_of}
@@ -16,17 +16,17 @@ byte_small : (b : Bool) → bool_byte b ≤ 1
 byte_small true = omega arith
 byte_small false = omega arith
 
-pub returns-in-err-check-bytes : goal.returns-in-err-check-bytes
-returns-in-err-check-bytes c =
-    let p = err_from_is_err_and c.from-residual.result c.from-residual.ensures.1 in
-    let v : c.from-residual.result ≡ answered c.args.kind c.args.macroblocks c.args.bytes.now = rw (p.1, p.2) (sym (no_words _ _ _ _ c.in-err-check-bytes.ensures)) in
+pub returns-in_err-check_bytes : goal.returns-in_err-check_bytes
+returns-in_err-check_bytes c =
+    let p = err_from_is_err_and c.from_residual.result c.from_residual.ensures.1 in
+    let v : c.from_residual.result ≡ answered c.args.kind c.args.macroblocks c.args.bytes.now = rw (p.1, p.2) (sym (no_words _ _ _ _ c.in_err-check_bytes.ensures)) in
     record { value = v; accepted = accepted_is _ _ _ _ v; whole = reads_whole _ _ _ }
 
-pub returns-in-err-found : goal.returns-in-err-found
-returns-in-err-found c =
-    let p = err_from_is_err_and c.from-residual-in-err-found.result c.from-residual-in-err-found.ensures.1 in
-    let v : c.from-residual-in-err-found.result ≡ answered c.args.kind c.args.macroblocks c.args.bytes.now =
-    rw (p.1, p.2) (sym (faulty _ _ _ _ c.in-ok-check-bytes.ensures (sym c.loop-macroblock.invariant.0 ∙ stop _ _ _ c.loop-macroblock.intra (state_of c.loop-macroblock.words) _ c.loop-macroblock-test.true c.in-err-found.ensures))) in
+pub returns-in_err-found : goal.returns-in_err-found
+returns-in_err-found c =
+    let p = err_from_is_err_and c.from_residual-in_err-found.result c.from_residual-in_err-found.ensures.1 in
+    let v : c.from_residual-in_err-found.result ≡ answered c.args.kind c.args.macroblocks c.args.bytes.now =
+    rw (p.1, p.2) (sym (faulty _ _ _ _ c.in_ok-check_bytes.ensures (sym c.loop-macroblock.invariant.0 ∙ stop _ _ _ c.loop-macroblock.intra (state_of c.loop-macroblock.words) _ c.loop-macroblock-test.true c.in_err-found.ensures))) in
     record { value = v; accepted = accepted_is _ _ _ _ v; whole = reads_whole _ _ _ }
 
 pub loop-macroblock-preserved : goal.loop-macroblock-preserved
@@ -35,11 +35,11 @@ loop-macroblock-preserved c = (
   omega (arith, c.from-intra.ensures, byte_small c.is_intra.result, c.loop-macroblock.invariant.1),
 )
 
-pub returns-in-err-check-end : goal.returns-in-err-check-end
-returns-in-err-check-end c =
-    let p = err_from_is_err_and c.from-residual-in-err-check-end.result c.from-residual-in-err-check-end.ensures.1 in
-    let v : c.from-residual-in-err-check-end.result ≡ answered c.args.kind c.args.macroblocks c.args.bytes.now =
-    rw (p.1, p.2) (sym (left_over _ _ _ _ _ (state_of c.loop-macroblock.words) c.in-ok-check-bytes.ensures (sym c.loop-macroblock.invariant.0 ∙ done _ _ _ c.loop-macroblock.intra (state_of c.loop-macroblock.words) c.loop-macroblock-test.false) c.in-err-check-end.ensures)) in
+pub returns-in_err-check_end : goal.returns-in_err-check_end
+returns-in_err-check_end c =
+    let p = err_from_is_err_and c.from_residual-in_err-check_end.result c.from_residual-in_err-check_end.ensures.1 in
+    let v : c.from_residual-in_err-check_end.result ≡ answered c.args.kind c.args.macroblocks c.args.bytes.now =
+    rw (p.1, p.2) (sym (left_over _ _ _ _ _ (state_of c.loop-macroblock.words) c.in_ok-check_bytes.ensures (sym c.loop-macroblock.invariant.0 ∙ done _ _ _ c.loop-macroblock.intra (state_of c.loop-macroblock.words) c.loop-macroblock-test.false) c.in_err-check_end.ensures)) in
     record { value = v; accepted = accepted_is _ _ _ _ v; whole = reads_whole _ _ _ }
 
 pub returns : goal.returns

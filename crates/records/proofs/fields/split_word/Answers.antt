@@ -1,4 +1,4 @@
-use Rattle.std.proofs.Common.{◌≡◌, ◌≤◌, length, arith, length-drop, rules}
+use Rattle.std.proofs.Common.{◌≤◌, length, arith, length-drop, rules}
 use Rattle.std.proofs.lemmas.List.{take_rest}
 use Rattle.records.proofs.Chunks.{words_more}
 use Rattle.records.proofs.fields.split_word.Goals as goal

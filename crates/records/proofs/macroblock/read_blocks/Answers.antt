@@ -1,14 +1,14 @@
-use Rattle.std.proofs.Common.{◌≡◌, sym, refl, ◌∙◌, arith, length-set, rules}
+use Rattle.std.proofs.Common.{sym, refl, ◌∙◌, length-set}
 use Rattle.std.proofs.lemmas.Result.{err_from_is_err_and}
 use Rattle.records.specs.Reading.{state_of}
 use Rattle.records.proofs.Gathered.{after_none}
 use Rattle.records.proofs.Blocks.{blocks_end, blocks_stop, blocks_more}
 use Rattle.records.proofs.macroblock.read_blocks.Goals as goal
 
-pub returns-in-err-found : goal.returns-in-err-found
-returns-in-err-found c =
-    let p = err_from_is_err_and c.from-residual.result c.from-residual.ensures.1 in
-    rw (p.1, p.2) (sym (blocks_stop _ _ _ _ (state_of c.loop-block.words) c.loop-block.gathered _ c.loop-block-test.true c.in-err-found.ensures) ∙ c.loop-block.invariant.0)
+pub returns-in_err-found : goal.returns-in_err-found
+returns-in_err-found c =
+    let p = err_from_is_err_and c.from_residual.result c.from_residual.ensures.1 in
+    rw (p.1, p.2) (sym (blocks_stop _ _ _ _ (state_of c.loop-block.words) c.loop-block.gathered _ c.loop-block-test.true c.in_err-found.ensures) ∙ c.loop-block.invariant.0)
 
 pub loop-block-init : goal.loop-block-init
 loop-block-init c = (after_none _, refl)

@@ -1,4 +1,3 @@
-use Rattle.std.proofs.Common.{arith}
 use Rattle.records.specs.Reading.{state_of}
 use Rattle.records.specs.Again.{records_of}
 use Rattle.records.proofs.Onward.{none_left}

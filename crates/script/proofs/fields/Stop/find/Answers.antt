@@ -1,4 +1,4 @@
-use Rattle.std.proofs.Common.{◌≡◌, sym, refl, ◌∙◌, arith}
+use Rattle.std.proofs.Common.{sym, ◌∙◌, arith}
 use Rattle.script.specs.Fields.{stops_at}
 use Rattle.script.proofs.Spans.{found, further, nowhere}
 use Rattle.script.proofs.fields.Stop.find.Goals as goal
