@@ -1,6 +1,6 @@
 -- The deblocking filter's rule for four samples over an edge of two blocks: a and b lie before the edge, c and d after it. Its divisions
 -- drop the fraction. Assumes nothing.
-use Rattle.std.specs.Prelude.{ℕ, ◌+◌, ◌-◌, ◌*◌, ◌/◌, List, [], ◌∷◌, ℤ, pos, ◌+ℤ◌, ◌-ℤ◌, neg_ℤ, slice_index, unsigned_abs}
+use Rattle.std.specs.Prelude.{ℕ, ◌-◌, ◌*◌, ◌/◌, List, [], ◌∷◌, ℤ, pos, ◌+ℤ◌, ◌-ℤ◌, neg_ℤ, slice_index, unsigned_abs}
 use Rattle.transform.specs.Signs.{with_sign}
 use Rattle.transform.specs.Sums.{brought}
 use Rattle.samples.specs.Clipping.{clipped}

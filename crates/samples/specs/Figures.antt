@@ -1,5 +1,5 @@
 -- Worked figures of the rules. Assumes nothing.
-use Rattle.std.specs.Prelude.{◌≡◌, ℕ, ◌<◌, true, false, List, ◌∷◌, replicate, ℤ, pos, negsuc, Some}
+use Rattle.std.specs.Prelude.{◌≡◌, ℕ, ◌<◌, true, false, ◌∷◌, replicate, ℤ, pos, negsuc, Some}
 use Rattle.transform.specs.Coefficients.{block_coefficients}
 use Rattle.transform.specs.Inverse.{two_pass, direct}
 use Rattle.transform.specs.Levels.{dequantized}

@@ -1,6 +1,6 @@
 -- Two passes, one over the rows and one over the columns, are the transforms. Assumes nothing.
-use Rattle.std.proofs.Common.{◌≡◌, ℕ, suc, ◌+◌, ◌*◌, ◌/◌, ◌%◌, ◌^◌, ◌<◌, ◌≤◌, List, get_or, ℤ, pos, negsuc, ◌+ℤ◌, ◌*ℤ◌, nat_abs, ◌≤ℤ◌, sym, refl, ap, ◌∙◌, subst, arith}
-use lib.IntN.{+ℤ_idr, *ℤ-zero, *ℤ_comm}
+use Rattle.std.proofs.Common.{◌≡◌, ℕ, ◌+◌, ◌*◌, ◌/◌, ◌%◌, ◌<◌, ◌≤◌, List, get_or, ℤ, pos, negsuc, ◌+ℤ◌, ◌*ℤ◌, nat_abs, sym, refl, ap, ◌∙◌, subst, arith}
+use lib.IntN.{+ℤ_idr, *ℤ_comm}
 use Rattle.std.proofs.lemmas.Int.{ints, clamps}
 use Rattle.transform.specs.Sums.{sum8, floor, brought}
 use Rattle.transform.specs.Factors.{cosine}
@@ -8,7 +8,7 @@ use Rattle.transform.specs.Inverse.{limited, coefficient, ranged, between, twice
 use Rattle.transform.specs.Passes.{weighed, passed, Small}
 use Rattle.transform.proofs.Sizes.{floor_size}
 use Rattle.transform.proofs.Rows.{weighed_size}
-use Rattle.transform.specs.SumLaws.{times_assoc, sum_same, sum_zeros, sum_scale, sum_swap}
+use Rattle.transform.specs.SumLaws.{times_assoc, sum_same, sum_scale, sum_swap}
 
 abbrev pub Gives : List ℤ → (ℕ → ℤ) → Type 0
 Gives rs f = (p : ℕ) → p < 64 → get_or rs p (pos 0) ≡ f p

@@ -1,5 +1,5 @@
 -- The code's table of zigzag positions keeps the rule. Assumes nothing.
-use Rattle.std.proofs.Common.{◌≡◌, ℕ, ◌/◌, ◌%◌, ◌<◌, Bool, eqb, ltb, List, [], ◌∷◌, get_or, eqb→eq, ltb→lt}
+use Rattle.std.proofs.Common.{◌≡◌, ℕ, ◌/◌, ◌%◌, ◌<◌, eqb, ltb, List, [], ◌∷◌, get_or, eqb→eq, ltb→lt}
 use Rattle.transform.specs.Zigzag.{rising, diagonal, diagonals, zigzag, found, position_of}
 use Rattle.transform.proofs.Finite.{below}
 

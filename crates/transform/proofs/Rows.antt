@@ -1,8 +1,8 @@
 -- A row's sums: their size. Assumes nothing.
-use Rattle.std.proofs.Common.{◌≡◌, ℕ, ◌+◌, ◌*◌, ◌<◌, ◌≤◌, List, get_or, ℤ, pos, negsuc, ◌+ℤ◌, ◌*ℤ◌, nat_abs, mul-le-mul_right, arith}
-use Rattle.transform.specs.Sums.{sum_to, floor}
+use Rattle.std.proofs.Common.{ℕ, ◌+◌, ◌*◌, ◌<◌, ◌≤◌, List, get_or, ℤ, pos, ◌*ℤ◌, nat_abs, mul-le-mul_right, arith}
+use Rattle.transform.specs.Sums.{sum_to}
 use Rattle.transform.specs.Factors.{cosine}
-use Rattle.transform.specs.Passes.{Small, weighed, passed}
+use Rattle.transform.specs.Passes.{Small, weighed}
 use Rattle.transform.proofs.Sizes.{sum_size, factors_size}
 
 abbrev pub term : List ℤ → ℕ → ℕ → ℕ → ℤ

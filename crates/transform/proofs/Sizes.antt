@@ -1,10 +1,10 @@
 -- How large sums and products of integers get, and that they fit a width. Assumes nothing.
-use Rattle.std.proofs.Common.{◌≡◌, ℕ, zero, suc, ◌+◌, ◌*◌, ◌^◌, ◌<◌, ◌≤◌, Bool, T, leb, ℤ, pos, negsuc, ◌+ℤ◌, ◌*ℤ◌, neg_ℤ, nat_abs, sym, refl, ap, ◌∙◌, subst, le_trans, lt_of_le_of_lt, mul-le-mul_right, add-mul, mul-le-mul_left, arith, leb→le, to_z-of_z, SFits, to_z, of_z}
+use Rattle.std.proofs.Common.{◌≡◌, ℕ, zero, suc, ◌+◌, ◌*◌, ◌^◌, ◌<◌, ◌≤◌, leb, ℤ, pos, negsuc, ◌+ℤ◌, ◌*ℤ◌, neg_ℤ, nat_abs, refl, ap, ◌∙◌, lt_of_le_of_lt, add-mul, mul-le-mul_left, arith, leb→le, to_z-of_z, SFits, to_z, of_z}
 use mir.Syntax.{Width}
 use mir.Val.{hbits}
 use lib.Signed.{shr_z, mag_shr}
 use Rattle.std.proofs.lemmas.Int.{ints}
-use Rattle.std.proofs.lemmas.Nat.{mul-le, div_below}
+use Rattle.std.proofs.lemmas.Nat.{div_below}
 use Rattle.transform.specs.Sums.{sum_to, floor}
 use Rattle.transform.specs.Factors.{cosine, size, mirrored, signed}
 use Rattle.transform.proofs.Finite.{all_to, below}

@@ -1,6 +1,6 @@
 -- The factors of the inverse transforms: cosine u n is 2048 times the square root of 2 times cos ((2n + 1) u pi / 16), rounded, and
 -- 2048 for u = 0. Seven sizes serve all of them, since a cosine repeats, mirrored and with its sign turned. Assumes nothing.
-use Rattle.std.specs.Prelude.{ℕ, zero, suc, ◌+◌, ◌-◌, ◌*◌, ◌%◌, cond, List, [], ◌∷◌, ℤ, pos, neg_ℤ, nat_lt, slice_index}
+use Rattle.std.specs.Prelude.{ℕ, zero, suc, ◌+◌, ◌-◌, ◌*◌, ◌%◌, cond, [], ◌∷◌, ℤ, pos, neg_ℤ, nat_lt, slice_index}
 
 -- the size for an angle of m times pi / 16, for m from 1 to 7
 unfoldable pub size : ℕ → ℤ

@@ -1,10 +1,10 @@
 -- The laws of the transforms. Assumes nothing.
 use Rattle.std.specs.Prelude.{◌≡◌, ℕ, zero, suc, ◌+◌, ◌*◌, ◌<◌, List, [], ◌∷◌, map, ℤ, pos, negsuc, ◌+ℤ◌, ◌*ℤ◌, ◌≤ℤ◌, slice_index_or, refl}
-use Rattle.std.proofs.Common.{sym, ap, ◌∙◌, arith, zero-add}
+use Rattle.std.proofs.Common.{ap, ◌∙◌, arith, zero-add}
 use Rattle.std.proofs.Math.Nat.{div-eq_of_lt}
 use Rattle.std.proofs.Math.IntN.{*ℤ-zero}
 use Rattle.std.proofs.lemmas.Int.{ints, clamps}
-use Rattle.transform.specs.Sums.{sum8, floor, brought}
+use Rattle.transform.specs.Sums.{floor, brought}
 use Rattle.transform.specs.Factors.{cosine}
 use Rattle.transform.specs.Inverse.{limited, coefficient, ranged, between, twice, once}
 use Rattle.transform.specs.SumLaws.{sum_same, sum_zeros}

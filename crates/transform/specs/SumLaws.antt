@@ -1,7 +1,7 @@
 -- Laws of products and sums of integers. Assumes nothing.
 use Rattle.std.specs.Prelude.{◌≡◌, ℕ, zero, suc, ◌*◌, ◌<◌, ℤ, pos, ◌+ℤ◌, ◌*ℤ◌, refl}
 use Rattle.std.proofs.Common.{sym, ap, ◌∙◌, arith}
-use Rattle.std.proofs.Math.IntN.{+ℤ_idl, +ℤ_idr, +ℤ_assoc, +ℤ_comm, *ℤ-zero, *ℤ_comm}
+use Rattle.std.proofs.Math.IntN.{+ℤ_idl, *ℤ-zero}
 use borrow.Author.Differences.{up, down, sum_is_lem, product_is}
 use Rattle.std.proofs.lemmas.Int.{ints}
 use Rattle.transform.specs.Sums.{sum_to}

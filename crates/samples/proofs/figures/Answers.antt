@@ -1,4 +1,4 @@
-use Rattle.std.proofs.Common.{◌≡◌, refl}
+use Rattle.std.proofs.Common.{refl}
 use Rattle.transform.specs.Inverse.{limited}
 use Rattle.transform.specs.Levels.{rebuilt_size}
 use Rattle.transform.specs.Signs.{with_sign}

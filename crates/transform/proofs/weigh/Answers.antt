@@ -1,4 +1,4 @@
-use Rattle.std.proofs.Common.{◌≡◌, ℕ, suc, ◌+◌, ◌*◌, ◌^◌, ◌<◌, ◌≤◌, List, get_or, ℤ, pos, ◌+ℤ◌, ◌*ℤ◌, nat_abs, sym, refl, ap, ◌∙◌, subst, add-one, arith, to_z-of_z, w64, SFits, to_z, of_z}
+use Rattle.std.proofs.Common.{◌≡◌, ℕ, suc, ◌+◌, ◌*◌, ◌^◌, ◌<◌, List, get_or, ℤ, pos, ◌+ℤ◌, ◌*ℤ◌, sym, refl, ap, ◌∙◌, subst, add-one, arith, to_z-of_z, w64, SFits, to_z, of_z}
 use Rattle.std.proofs.lemmas.Nat.{mul-le}
 use Rattle.transform.specs.Sums.{sum_to}
 use Rattle.transform.specs.Factors.{cosine}
@@ -40,14 +40,14 @@ pub loop-u-init : goal.loop-u-init
 unfolding sum_to
 loop-u-init c = refl
 
-pub overflow-mul-sum-in-loop-u : goal.overflow-mul-sum-in-loop-u
+pub overflow_mul-sum-in-loop-u : goal.overflow_mul-sum-in-loop-u
 unfolding product
-overflow-mul-sum-in-loop-u c =
+overflow_mul-sum-in-loop-u c =
     product_fits c.args.x.now _ _ _ _ _ c.requires.small c.requires.across c.requires.down c.loop-u-test.true c.factor.ensures c.loop-u.invariant
 
-pub overflow-add-sum-in-loop-u : goal.overflow-add-sum-in-loop-u
+pub overflow_add-sum-in-loop-u : goal.overflow_add-sum-in-loop-u
 unfolding product
-overflow-add-sum-in-loop-u c =
+overflow_add-sum-in-loop-u c =
     more_fits c.args.x.now _ _ _ _ _ c.requires.small c.requires.across c.requires.down c.loop-u-test.true c.factor.ensures c.loop-u.invariant
 
 pub loop-u-preserved : goal.loop-u-preserved

@@ -1,4 +1,4 @@
-use Rattle.std.proofs.Common.{◌≡◌, ◌+◌, ◌*◌, ◌≤◌, get_or, pos, ◌*ℤ◌, nat_abs}
+use Rattle.std.proofs.Common.{◌≡◌, ◌+◌, ◌*◌, get_or, pos, ◌*ℤ◌}
 use Rattle.transform.specs.Sums.{sum_to}
 use Rattle.transform.specs.Factors.{cosine}
 use Rattle.transform.proofs.weigh.Given as goal

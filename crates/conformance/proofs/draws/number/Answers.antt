@@ -17,14 +17,14 @@ difference_fits q low z h k e = omega (arith, ints)
 difference_is : (q low : ℕ) (z : ℤ) → q ≤ 131071 → low < 65536 → z ≡ pos low → to_z w32 (of_z w32 (to_z w32 q -ℤ to_z w32 (of_z w32 z))) ≡ pos q -ℤ pos low
 difference_is q low z h k e = omega (arith, ints)
 
-pub overflow-mul-part : goal.overflow-mul-part
-overflow-mul-part c = let h = product_size c.from-3.result c.from.result c.from-2.result (omega arith) (omega arith) (omega arith) in record { fits = omega arith }
+pub overflow_mul-part : goal.overflow_mul-part
+overflow_mul-part c = let h = product_size c.from-3.result c.from.result c.from-2.result (omega arith) (omega arith) (omega arith) in record { fits = omega arith }
 
-pub overflow-cast-result : goal.overflow-cast-result
-overflow-cast-result c = let h = part_size c.from-3.result c.from.result c.from-2.result (omega arith) (omega arith) (omega arith) in omega (arith, ints)
+pub overflow_cast-result : goal.overflow_cast-result
+overflow_cast-result c = let h = part_size c.from-3.result c.from.result c.from-2.result (omega arith) (omega arith) (omega arith) in omega (arith, ints)
 
-pub overflow-sub-result : goal.overflow-sub-result
-overflow-sub-result c =
+pub overflow_sub-result : goal.overflow_sub-result
+overflow_sub-result c =
     difference_fits _ c.args.range.low _ (part_size c.from-3.result c.from.result c.from-2.result (omega arith) (omega arith) (omega arith)) (omega arith)
     c.from-4.ensures
 

@@ -1,4 +1,4 @@
-use Rattle.std.proofs.Common.{◌≡◌, ℕ, ◌+◌, ◌<◌, ◌≢◌, List, length, get_or, set, ℤ, pos, ◌≤ℤ◌, sym, subst, arith, length-set, get_or-set_other, get_or-set_same, to_z-of_z, w16, to_z, of_z, below_more}
+use Rattle.std.proofs.Common.{ℕ, ◌+◌, ◌<◌, ◌≢◌, List, length, get_or, set, ℤ, pos, ◌≤ℤ◌, sym, subst, arith, length-set, get_or-set_other, get_or-set_same, to_z-of_z, w16, to_z, of_z, below_more}
 use Rattle.conformance.proofs.reference.rounded_block.Goals as goal
 
 -- what holds of the elements before i, and of v, holds before i + 1 once v stands at i
@@ -11,5 +11,5 @@ loop-p-preserved c =
     let P : ℤ → Type 0 = λ z. (to_z w16 (of_z w16 c.args.low) ≤ℤ z) × (z ≤ℤ to_z w16 (of_z w16 c.args.high)) in (
       simp length-set c.loop-p.invariant.0,
       one_more P c.loop-p.out c.loop-p.p _ (omega arith) c.loop-p.invariant.1
-          (subst P (sym (to_z-of_z {w = w16} (record { sfits = c.rounded.type-inv }))) c.rounded.ensures),
+          (subst P (sym (to_z-of_z {w = w16} (record { sfits = c.rounded.type_inv }))) c.rounded.ensures),
     )

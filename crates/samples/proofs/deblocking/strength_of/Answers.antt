@@ -1,4 +1,4 @@
-use Rattle.std.proofs.Common.{◌≡◌, ℕ, ◌/◌, ◌%◌, ◌<◌, eqb, List, [], ◌∷◌, get_or, sym, eqb→eq}
+use Rattle.std.proofs.Common.{◌≡◌, ℕ, ◌/◌, ◌%◌, ◌<◌, eqb, [], ◌∷◌, get_or, sym, eqb→eq}
 use Rattle.std.proofs.lemmas.List.{get_or_past}
 use Rattle.transform.proofs.Finite.{below}
 use Rattle.samples.specs.Deblocking.{strengths, strength_of}

@@ -1,4 +1,4 @@
-use Rattle.std.proofs.Common.{◌≡◌, pos, sym, ap, ◌∙◌, to_z-of_z}
+use Rattle.std.proofs.Common.{pos, sym, ap, ◌∙◌, to_z-of_z}
 use lib.Signed.{lt_z}
 use Rattle.samples.proofs.Components.{sign_under, sign_over}
 use Rattle.samples.proofs.vectors.with_sign.Goals as goal

@@ -8,9 +8,9 @@ use Rattle.samples.proofs.vectors.wrap.Goals as goal
 pub returns : goal.returns
 unfolding wrapped
 returns c =
-    let is = less_32 c.rem-euclid.result c.rem-euclid.ensures.lower-bound c.rem-euclid.ensures.upper-bound in
+    let is = less_32 c.rem_euclid.result c.rem_euclid.ensures.lower_bound c.rem_euclid.ensures.upper_bound in
     let sum : to_z w32 (of_z w32 (to_z w32 (of_z w32 c.from.result) +ℤ pos 32)) ≡ c.args.sum +ℤ pos 32 = omega (arith, ints) in
     record {
-      value = is ∙ ap (λ z. z -ℤ pos 32) (c.rem-euclid.ensures.value ∙ ap (λ z. int_rem_euclid z (pos 64)) sum);
-      range = subst (λ (z : ℤ). (negsuc 31 ≤ℤ z) × (z ≤ℤ pos 31)) (sym is) (from_32 c.rem-euclid.result c.rem-euclid.ensures.lower-bound c.rem-euclid.ensures.upper-bound);
+      value = is ∙ ap (λ z. z -ℤ pos 32) (c.rem_euclid.ensures.value ∙ ap (λ z. int_rem_euclid z (pos 64)) sum);
+      range = subst (λ (z : ℤ). (negsuc 31 ≤ℤ z) × (z ≤ℤ pos 31)) (sym is) (from_32 c.rem_euclid.result c.rem_euclid.ensures.lower_bound c.rem_euclid.ensures.upper_bound);
     }

@@ -1,4 +1,4 @@
-use Rattle.std.proofs.Common.{◌≡◌, sym, ◌∙◌, to_z-of_z, w16}
+use Rattle.std.proofs.Common.{sym, ◌∙◌, to_z-of_z, w16}
 use Rattle.transform.proofs.Quantized.{coded_first, coded_other, uncoded}
 use Rattle.transform.proofs.levels.coefficient_at.Goals as goal
 

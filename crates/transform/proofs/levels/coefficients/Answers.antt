@@ -1,4 +1,4 @@
-use Rattle.std.proofs.Common.{◌≡◌, ℕ, ◌<◌, pos, arith}
+use Rattle.std.proofs.Common.{pos, arith}
 use Rattle.std.proofs.lemmas.List.FromFn.{fill_by_all}
 use Rattle.transform.specs.Coefficients.{block_coefficients, coefficient_at}
 use Rattle.transform.proofs.levels.coefficients.Goals as goal

@@ -1,4 +1,4 @@
-use Rattle.std.proofs.Common.{◌≡◌, get_or, pos, sym, ap, ◌∙◌, to_z-of_z, w8, w16, SFits, rules}
+use Rattle.std.proofs.Common.{get_or, pos, ap, ◌∙◌, to_z-of_z, w8, w16, SFits, rules}
 use Rattle.transform.specs.Levels.{dequantized}
 use Rattle.transform.specs.Coefficients.{from_level}
 use Rattle.transform.proofs.levels.from_level.Goals as goal

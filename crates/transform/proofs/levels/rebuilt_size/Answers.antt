@@ -1,4 +1,4 @@
-use Rattle.std.proofs.Common.{◌≡◌, ◌+◌, ◌*◌, ◌≤◌, arith}
+use Rattle.std.proofs.Common.{◌+◌, ◌*◌, arith}
 use Rattle.std.proofs.lemmas.Nat.{mul-le}
 use Rattle.transform.proofs.Quantized.{size_none, size_even, size_odd}
 use Rattle.transform.proofs.levels.rebuilt_size.Goals as goal

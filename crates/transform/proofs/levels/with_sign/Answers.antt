@@ -1,4 +1,4 @@
-use Rattle.std.proofs.Common.{◌≡◌, pos, sym, ap, ◌∙◌, to_z-of_z}
+use Rattle.std.proofs.Common.{pos, sym, ap, ◌∙◌, to_z-of_z}
 use lib.Signed.{lt_z}
 use Rattle.transform.proofs.Quantized.{sign_under, sign_over}
 use Rattle.transform.proofs.levels.with_sign.Goals as goal

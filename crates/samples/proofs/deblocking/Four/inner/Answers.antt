@@ -1,4 +1,4 @@
-use Rattle.std.proofs.Common.{◌≡◌, sym, ◌∙◌, arith}
+use Rattle.std.proofs.Common.{arith}
 use Rattle.samples.proofs.Corrections.{inner_size}
 use Rattle.samples.proofs.deblocking.Four.inner.Goals as goal
 

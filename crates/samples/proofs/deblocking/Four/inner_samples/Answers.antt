@@ -1,4 +1,4 @@
-use Rattle.std.proofs.Common.{◌≡◌, ◌<◌, pos, neg_ℤ, sym, ap, ◌∙◌, arith}
+use Rattle.std.proofs.Common.{◌≡◌, pos, neg_ℤ, sym, ap, ◌∙◌, arith}
 use Rattle.samples.specs.Deblocking.{inner_of}
 use Rattle.samples.proofs.Corrections.{inner_up, inner_down, up_raised, up_lowered, down_raised, down_lowered}
 use Rattle.samples.proofs.deblocking.Four.inner_samples.Goals as goal

@@ -1,4 +1,3 @@
-use Rattle.std.proofs.Common.{◌≡◌, sym, ◌∙◌}
 use Rattle.samples.proofs.Corrections.{outer_size_lem}
 use Rattle.samples.proofs.deblocking.Four.outer.Goals as goal
 
