@@ -28,19 +28,19 @@ loop-along-preserved g c =
     let low = c.args.left * side p in
     let n = c.args.edge.number in
     let x = c.loop-along.along in
-    let s = c.side-of-width.result in
-    let is : s ≡ side p = c.side-of-width.ensures in
+    let s = c.side_of-width.result in
+    let is : s ≡ side p = c.side_of-width.ensures in
     let k = quantizer_at c.args.marks.now c.args.columns t in (
-      then_smoothed (edges p low (x * side p) n (n + 1)) (edges p (x * s) (x * s + s) n (n + 1)) _ k (λ _ _ _. c.edge-mark-mark.result)
+      then_smoothed (edges p low (x * side p) n (n + 1)) (edges p (x * s) (x * s + s) n (n + 1)) _ k (λ _ _ _. c.edge_mark-mark.result)
           (turn t (g.S.Store.picture c.args.store.now)) (turn t (g.S.Store.picture c.loop-along.store)) _
-          c.loop-along.invariant.0 c.smooth-marked.ensures
+          c.loop-along.invariant.0 c.smooth_marked.ensures
           (λ q u v. rw (is, next p x) (more_along p low (x * side p) ((x + 1) * side p) n (n + 1) q u v (up p _ _ c.loop-along.auto.along) (up p x (x + 1) (omega arith))))
           (λ q u v j e m. apart_along p low (x * side p) (x * side p + side p) n q u v j (rw is at e) m)
           (λ q u v e. let w = says p (x * s) (x * s + s) n q u v e in
           let there : u / side p ≡ x = whose p x u (rw is at w.1) (rw is at w.2) in (
             w.3,
             omega (arith, w.4),
-            c.edge-mark-mark.ensures
+            c.edge_mark-mark.ensures
                 ∙ ap (λ m. edge_mark c.args.marks.now c.args.columns t (side p) m n) (sym there)
                 ∙ ap (λ m. k p u m) (sym w.4)
                 ∙ ap (λ m. k m u (edge v)) w.0,

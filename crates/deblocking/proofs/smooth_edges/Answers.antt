@@ -7,17 +7,17 @@ use Rattle.deblocking.proofs.Edges.{then_smoothed, apart_planes, inside_says, tu
 use Rattle.deblocking.proofs.smooth_edges.Goals as goal
 
 pub loop-plane-init : goal.loop-plane-init
-loop-plane-init g c = none _ _ _ (λ q u v. planes_none (edges_in c.turned-segment-inner.result q u v) q)
+loop-plane-init g c = none _ _ _ (λ q u v. planes_none (edges_in c.turned_segment-inner.result q u v) q)
 
 pub loop-plane-preserved : goal.loop-plane-preserved
 loop-plane-preserved g c =
     let t = c.args.turned in
     let p = c.loop-plane.plane in
-    let s = c.turned-segment-inner.result in
+    let s = c.turned_segment-inner.result in
     let k = quantizer_at c.args.marks.now c.columns-columns.result t in
     then_smoothed (λ q u v. ltb q p && edges_in s q u v) (λ q u v. eqb p q && edges_in s q u v) _ k k
     (turn t (g.S.Store.picture c.args.store.now)) (turn t (g.S.Store.picture c.loop-plane.store)) _
-    c.loop-plane.invariant c.smooth-plane.ensures
+    c.loop-plane.invariant c.smooth_plane.ensures
     (λ q u v. planes_more (edges_in s q u v) p q)
     (λ q u v j e m. apart_planes (edges_in s q u v) _ p q e)
     (λ q u v e. let w = inside_says s q u v (and_parts (eqb p q) (edges_in s q u v) e).1 in (w.2, omega (arith, w.3), refl))
@@ -26,10 +26,10 @@ pub returns : goal.returns
 returns g c =
     let t = c.args.turned in
     let f = g.S.Store.picture c.args.store.now in
-    let s = c.turned-segment-inner.result in
+    let s = c.turned_segment-inner.result in
     let k = quantizer_at c.args.marks.now c.columns-columns.result t in
     sym (turned_twice t _)
     ∙ ap (turn t) (c.loop-plane.invariant
     ∙ alike _ (edges_in s) (smoothed k (turn t f).sample) (turn t f) (λ q u v h. planes_all (turn t f) (edges_in s q u v) c.loop-plane.plane q u v (omega arith) h))
     ∙ ap (λ m. turn t (painted (edges_in s) (smoothed (quantizer_at c.args.marks.now m t) (turn t f).sample) (turn t f))) c.columns-columns.ensures
-    ∙ ap (λ m. turn t (painted (edges_in m) (smoothed (quantizer_at c.args.marks.now f.wide t) (turn t f).sample) (turn t f))) c.turned-segment-inner.ensures
+    ∙ ap (λ m. turn t (painted (edges_in m) (smoothed (quantizer_at c.args.marks.now f.wide t) (turn t f).sample) (turn t f))) c.turned_segment-inner.ensures

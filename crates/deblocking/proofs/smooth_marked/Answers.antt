@@ -8,9 +8,9 @@ same : {X : Type 0} (b : Bool) (x : X) → x ≡ cond b x x
 same true x = refl
 same false x = refl
 
-pub returns-in-default : goal.returns-in-default
+pub returns-in_default : goal.returns-in_default
 unfolding smoothed
-returns-in-default g c =
+returns-in_default g c =
     let f = turn c.args.edge.turned (g.S.Store.picture c.args.store.now) in
     same_picture _ _ refl refl
-    (λ q u v. simp c.in-default.is (same (has f q u v && edges c.args.edge.plane c.args.low c.args.high c.args.edge.number (c.args.edge.number + 1) q u v) (f.sample q u v)))
+    (λ q u v. simp c.in_default.is (same (has f q u v && edges c.args.edge.plane c.args.low c.args.high c.args.edge.number (c.args.edge.number + 1) q u v) (f.sample q u v)))

@@ -8,13 +8,13 @@ pub returns : goal.returns
 returns g c =
     let e = c.args.edge in
     let f = g.S.Store.picture c.args.store.now in
-    let f₁ = g.S.Store.picture c.write-at.new.store in
-    let f₂ = g.S.Store.picture c.write-at-2.new.store in
-    let f₃ = g.S.Store.picture c.write-at-3.new.store in
+    let f₁ = g.S.Store.picture c.write_at.new.store in
+    let f₂ = g.S.Store.picture c.write_at-2.new.store in
+    let f₃ = g.S.Store.picture c.write_at-3.new.store in
     let new : c.deblock-new.result ≡ deblocked (strength_of c.args.quantizer) (four_from (turn e.turned f).sample e.plane c.args.along (first e.number))
-    = c.deblock-new.ensures.value ∙ simp (c.sample-at.ensures, c.sample-at-2.ensures, c.sample-at-3.ensures, c.sample-at-4.ensures) in
+    = c.deblock-new.ensures.value ∙ simp (c.sample_at.ensures, c.sample_at-2.ensures, c.sample_at-3.ensures, c.sample_at-4.ensures) in
     four_writings c.args.quantizer (turn e.turned f) (turn e.turned f₁) (turn e.turned f₂) (turn e.turned f₃) _
     e.plane c.args.along e.number _ _ _ _ (omega arith)
     (ap (λ s. s.a) new) (ap (λ s. s.b) new) (ap (λ s. s.c) new) (ap (λ s. s.d) new)
-    (turned_write e.turned f f₁ _ _ _ _ c.write-at.ensures) (turned_write e.turned f₁ f₂ _ _ _ _ c.write-at-2.ensures)
-    (turned_write e.turned f₂ f₃ _ _ _ _ c.write-at-3.ensures) (turned_write e.turned f₃ _ _ _ _ _ c.write-at-4.ensures)
+    (turned_write e.turned f f₁ _ _ _ _ c.write_at.ensures) (turned_write e.turned f₁ f₂ _ _ _ _ c.write_at-2.ensures)
+    (turned_write e.turned f₂ f₃ _ _ _ _ c.write_at-3.ensures) (turned_write e.turned f₃ _ _ _ _ _ c.write_at-4.ensures)

@@ -14,13 +14,13 @@ loop-number-preserved g c =
     let p = c.args.plane in
     let low = c.args.segment.left * side p in
     let high = c.args.segment.right * side p in
-    let from = c.first-inside-number.result in
+    let from = c.first_inside-number.result in
     let n = c.loop-number.number in
     let k = quantizer_at c.args.marks.now c.args.columns t in
     let started : from ≤ n = c.loop-number.auto.number in (
       then_smoothed (edges p low high from n) (edges p low high n (n + 1)) _ k k
           (turn t (g.S.Store.picture c.args.store.now)) (turn t (g.S.Store.picture c.loop-number.store)) _
-          c.loop-number.invariant.0 c.smooth-edge.ensures
+          c.loop-number.invariant.0 c.smooth_edge.ensures
           (λ q u v. more_over p low high from n q u v started)
           (λ q u v j e m. apart_over p low high from n q u v j (omega arith) e m)
           (λ q u v e. let s = says p low high n q u v e in (s.3, omega (arith, s.4), refl)),
@@ -32,8 +32,8 @@ returns g c =
     let s = c.args.segment in
     let p = c.args.plane in
     let n = c.loop-number.number in
-    let e = c.first-inside-number.ensures in
-    let to = c.border-of-number-end.ensures.value in
+    let e = c.first_inside-number.ensures in
+    let to = c.border_of-number-end.ensures.value in
     let f = turn c.args.turned (g.S.Store.picture c.args.store.now) in
     let k = quantizer_at c.args.marks.now c.args.columns c.args.turned in
     c.loop-number.invariant.0

@@ -1,8 +1,7 @@
-use Rattle.std.proofs.Common.{◌≡◌, ℤ, sym, refl, ◌∙◌, w8, SFits, to_z, of_z, rules}
+use Rattle.std.proofs.Common.{◌≡◌, ℤ, ◌∙◌, w8, SFits, to_z, of_z, rules}
 use Rattle.std.proofs.lemmas.Int.{to_z-of_z}
 use Rattle.samples.specs.Vectors.{median_of}
 use Rattle.motion.specs.declared.vectors.Vector.{Vector}
-use Rattle.motion.specs.Vectors.{middle_of}
 use Rattle.motion.proofs.candidates.middle_of.Goals as goal
 
 -- a median of numbers that were passed on
@@ -17,5 +16,5 @@ both h v k w e f = rw (e, f)
 pub returns : goal.returns
 returns c =
     both _ _ _ _
-    (passed c.args.a.horizontal c.args.b.horizontal c.args.c.horizontal c.median.result (search rules) (search rules) (search rules) (record { sfits = c.median.type-inv }) c.median.ensures)
-    (passed c.args.a.vertical c.args.b.vertical c.args.c.vertical c.median-2.result (search rules) (search rules) (search rules) (record { sfits = c.median-2.type-inv }) c.median-2.ensures)
+    (passed c.args.a.horizontal c.args.b.horizontal c.args.c.horizontal c.median.result (search rules) (search rules) (search rules) (record { sfits = c.median.type_inv }) c.median.ensures)
+    (passed c.args.a.vertical c.args.b.vertical c.args.c.vertical c.median-2.result (search rules) (search rules) (search rules) (record { sfits = c.median-2.type_inv }) c.median-2.ensures)

@@ -1,4 +1,4 @@
-use Rattle.std.proofs.Common.{◌≡◌, [], ◌∷◌, ◌++◌, length, get_or, take, sym, refl, ap, ◌∙◌, arith, rules}
+use Rattle.std.proofs.Common.{◌≡◌, [], ◌∷◌, ◌++◌, length, get_or, take, sym, refl, ap, ◌∙◌, arith}
 use Rattle.std.proofs.lemmas.List.{length-take-le}
 use Rattle.records.specs.Again.{records_of}
 use Rattle.records.specs.Deliveries.{is_intra}
@@ -43,18 +43,18 @@ loop-macroblock-preserved c =
       omega (arith, n.within),
       cell_more _ _ (ages_of done c.args.finished.now) _ i _ c.loop-macroblock.invariant.2 (ages_length done _ ∙ size) (omega (arith, n.within, c.requires.ages))
           (ap (λ ms. ages_of ms c.args.finished.now) n.more ∙ ages_push done _ _
-          ∙ ap (λ v. ages_of done c.args.finished.now ++ (v ∷ [])) (sym (c.next-age.ensures ∙ ap (λ b. next_age b (get_or c.args.finished.now i 0)) c.is-intra.ensures ∙ ap (λ k. next_age (is_intra c.in-Some.macroblock) (get_or c.args.finished.now k 0)) (sym size)))),
+          ∙ ap (λ v. ages_of done c.args.finished.now ++ (v ∷ [])) (sym (c.next_age.ensures ∙ ap (λ b. next_age b (get_or c.args.finished.now i 0)) c.is_intra.ensures ∙ ap (λ k. next_age (is_intra c.in-Some.macroblock) (get_or c.args.finished.now k 0)) (sym size)))),
       cell_more _ _ (vectors_of c.args.columns done) _ i _ c.loop-macroblock.invariant.3 (vectors_length _ done ∙ size) (omega (arith, n.within, c.requires.vectors))
           (ap (λ ms. vectors_of c.args.columns ms) n.more ∙ vectors_push _ done _
-          ∙ ap (λ v. vectors_of c.args.columns done ++ (v ∷ [])) (sym (vector_value c.args.columns (vectors_of c.args.columns done) _ i (length done) c.in-Some.macroblock _ (omega arith) (vectors_length _ done ∙ size) size (c.vector-for.ensures ∙ ap (λ t. vector_for c.args.columns t i c.in-Some.macroblock) c.loop-macroblock.invariant.3)))),
+          ∙ ap (λ v. vectors_of c.args.columns done ++ (v ∷ [])) (sym (vector_value c.args.columns (vectors_of c.args.columns done) _ i (length done) c.in-Some.macroblock _ (omega arith) (vectors_length _ done ∙ size) size (c.vector_for.ensures ∙ ap (λ t. vector_for c.args.columns t i c.in-Some.macroblock) c.loop-macroblock.invariant.3)))),
       cell_more _ _ (marks_of done) _ i _ c.loop-macroblock.invariant.4 (marks_length done ∙ size) (omega (arith, n.within, c.requires.marks))
-          (ap marks_of n.more ∙ marks_push done _ ∙ ap (λ v. marks_of done ++ (v ∷ [])) (sym c.mark-of.ensures)),
+          (ap marks_of n.more ∙ marks_push done _ ∙ ap (λ v. marks_of done ++ (v ∷ [])) (sym c.mark_of.ensures)),
     )
 
 pub returns : goal.returns
 returns c =
     let records = records_of c.args.delivery in
-    let all = all_done records c.loop-macroblock.i (sym c.in-default.ensures ∙ c.loop-macroblock.invariant.0) c.loop-macroblock.invariant.1 in
+    let all = all_done records c.loop-macroblock.i (sym c.in_default.ensures ∙ c.loop-macroblock.invariant.0) c.loop-macroblock.invariant.1 in
     record {
       ages = c.loop-macroblock.invariant.2 ∙ all_set (λ ms. ages_of ms c.args.finished.now) records _ _ all;
       vectors = c.loop-macroblock.invariant.3 ∙ all_set (vectors_of c.args.columns) records _ _ all;
