@@ -1,5 +1,5 @@
 -- What a line of a script says.
-use Rattle.std.specs.Prelude.{ℕ, Bool, cond, List, [], length, Some, None, vec_items, codes, Option, ◌==◌}
+use Rattle.std.specs.Prelude.{ℕ, cond, List, [], length, Some, None, vec_items, codes, Option, ◌==◌}
 use Rattle.std.specs.Str.{bytes_eq}
 use Rattle.records.specs.declared.types.PictureKind.{PictureKind}
 use Rattle.records.specs.declared.types.PictureKind.TheVariants as picture
