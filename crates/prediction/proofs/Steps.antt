@@ -1,5 +1,5 @@
 -- The four ways in which half steps lead, from coordinates that are kept 64 above their value.
-use Rattle.std.proofs.Common.{◌≡◌, ℕ, ◌+◌, Bool, true, false, ℤ, pos, ◌+ℤ◌, ◌-ℤ◌, sym, refl, ap, ◌∙◌, arith}
+use Rattle.std.proofs.Common.{◌≡◌, ℕ, ◌+◌, true, false, ℤ, pos, ◌+ℤ◌, ◌-ℤ◌, arith}
 use Rattle.std.proofs.lemmas.Int.{ints}
 use Rattle.pictures.specs.declared.layouts.Segment.{Segment}
 use Rattle.samples.specs.Prediction.{between_four, between_two}

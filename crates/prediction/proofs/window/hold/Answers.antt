@@ -1,4 +1,4 @@
-use Rattle.std.proofs.Common.{◌≡◌, ◌+◌, ◌-◌, max, ap, ◌∙◌, arith}
+use Rattle.std.proofs.Common.{◌+◌, ◌-◌, max, ap, ◌∙◌, arith}
 use Rattle.prediction.proofs.Moves.{held_is}
 use Rattle.prediction.proofs.window.hold.Goals as goal
 

@@ -1,4 +1,4 @@
-use Rattle.std.proofs.Common.{◌≡◌, ℕ, ◌+◌, Bool, true, false, ℤ, pos, ◌+ℤ◌, sym, refl, ap, ◌∙◌, w8, SFits, to_z, of_z}
+use Rattle.std.proofs.Common.{◌≡◌, ℕ, Bool, ℤ, pos, ◌+ℤ◌, sym, ap, ◌∙◌, w8, SFits, to_z, of_z}
 use Rattle.std.proofs.lemmas.Int.{to_z-of_z}
 use Rattle.samples.specs.Prediction.{between_four, between_two, rounding_of}
 use Rattle.transform.specs.Sums.{floor}
@@ -22,7 +22,7 @@ four_same r a b c d w x y z e f g h = rw (e, f, g, h)
 pub returns-in-false-false : goal.returns-in-false-false
 returns-in-false-false g c =
     let a = c.args in
-    c.sample-in-here.ensures
+    c.sample_in-here.ensures
     ∙ no_half a.segment (rounding_of a.rounding) (g.S.Store.picture a.finished.now).sample a.plane a.x a.y a.across a.down c.moved-u.result c.moved-v.result
     (led a.across a.x c.moved-u.result c.ranges.across c.moved-u.ensures.value) (led a.down a.y c.moved-v.result c.ranges.down c.moved-v.ensures.value)
     (halved a.across _ c.ranges.across c.in-false-false.ensures) (halved a.down _ c.ranges.down c.in-false-false.ensures')
@@ -30,7 +30,7 @@ returns-in-false-false g c =
 pub returns-in-true-false : goal.returns-in-true-false
 returns-in-true-false g c =
     let a = c.args in
-    (c.between-two.ensures ∙ two_same _ _ _ _ _ c.sample-in-here.ensures c.sample-in-in-true-false.ensures)
+    (c.between_two.ensures ∙ two_same _ _ _ _ _ c.sample_in-here.ensures c.sample_in-in-true-false.ensures)
     ∙ half_across a.segment (rounding_of a.rounding) (g.S.Store.picture a.finished.now).sample a.plane a.x a.y a.across a.down c.moved-u.result c.moved-v.result
     (led a.across a.x c.moved-u.result c.ranges.across c.moved-u.ensures.value) (led a.down a.y c.moved-v.result c.ranges.down c.moved-v.ensures.value)
     (halved a.across _ c.ranges.across c.in-true-false.ensures) (halved a.down _ c.ranges.down c.in-true-false.ensures')
@@ -38,7 +38,7 @@ returns-in-true-false g c =
 pub returns-in-false-true : goal.returns-in-false-true
 returns-in-false-true g c =
     let a = c.args in
-    (c.between-two-in-false-true.ensures ∙ two_same _ _ _ _ _ c.sample-in-here.ensures c.sample-in-in-false-true.ensures)
+    (c.between_two-in-false-true.ensures ∙ two_same _ _ _ _ _ c.sample_in-here.ensures c.sample_in-in-false-true.ensures)
     ∙ half_down a.segment (rounding_of a.rounding) (g.S.Store.picture a.finished.now).sample a.plane a.x a.y a.across a.down c.moved-u.result c.moved-v.result
     (led a.across a.x c.moved-u.result c.ranges.across c.moved-u.ensures.value) (led a.down a.y c.moved-v.result c.ranges.down c.moved-v.ensures.value)
     (halved a.across _ c.ranges.across c.in-false-true.ensures) (halved a.down _ c.ranges.down c.in-false-true.ensures')
@@ -46,7 +46,7 @@ returns-in-false-true g c =
 pub returns-in-true-true : goal.returns-in-true-true
 returns-in-true-true g c =
     let a = c.args in
-    (c.between-four.ensures ∙ four_same _ _ _ _ _ _ _ _ _ c.sample-in-here.ensures c.sample-in.ensures c.sample-in-in-true-true.ensures c.sample-in-in-true-true-2.ensures)
+    (c.between_four.ensures ∙ four_same _ _ _ _ _ _ _ _ _ c.sample_in-here.ensures c.sample_in.ensures c.sample_in-in-true-true.ensures c.sample_in-in-true-true-2.ensures)
     ∙ half_both a.segment (rounding_of a.rounding) (g.S.Store.picture a.finished.now).sample a.plane a.x a.y a.across a.down c.moved-u.result c.moved-v.result
     (led a.across a.x c.moved-u.result c.ranges.across c.moved-u.ensures.value) (led a.down a.y c.moved-v.result c.ranges.down c.moved-v.ensures.value)
     (halved a.across _ c.ranges.across c.in-true-true.ensures) (halved a.down _ c.ranges.down c.in-true-true.ensures')
