@@ -89,7 +89,7 @@ pub fn predict_at<S: Store>(
     across: i8,
     down: i8,
 ) -> u8
-    requires left_lt_right { (segment.left < segment.right) × ((segment.right ≤ 22) × ((segment.top < segment.bottom) × (segment.bottom ≤ 22))) }
+    requires bounds { (segment.left < segment.right) × ((segment.right ≤ 22) × ((segment.top < segment.bottom) × (segment.bottom ≤ 22))) }
     requires small { (x ≤ 65535) × (y ≤ 65535) }
     ensures { result ≡ prediction_at segment (rounding_of rounding) (S.picture finished.now).sample plane x y across down }
 {

@@ -1,11 +1,10 @@
 -- The cells of a segment in a table of the whole picture.
-use Rattle.std.proofs.Common.{◌≡◌, ℕ, zero, suc, ◌+◌, ◌-◌, ◌*◌, ◌/◌, ◌<◌, ◌≤◌, Bool, true, false, eqb, ltb, leb, List, [], ◌++◌, length, get_or, take, drop, ℤ, Ok, sym, refl, ap, ◌∙◌, mul_comm, add-mul, arith}
-use Rattle.std.proofs.lemmas.Nat.{mul-add-lt, mul-le}
+use Rattle.std.proofs.Common.{◌≡◌, ℕ, zero, suc, ◌+◌, ◌-◌, ◌*◌, ◌/◌, ◌<◌, ◌≤◌, true, ltb, leb, List, ◌++◌, length, get_or, take, drop, ℤ, Ok, sym, refl, ap, ◌∙◌, mul_comm, add-mul, arith}
+use Rattle.std.proofs.lemmas.Nat.{mul-add-lt}
 use Rattle.std.proofs.lemmas.List.{drop_at, get_or_append_left, length-take-le}
 use Rattle.std.proofs.lemmas.Result.{IfOk-at_ok}
 use Rattle.std.proofs.lemmas.Bool.Decides.{nat_tests}
 use Rattle.records.specs.declared.types.Macroblock.{Macroblock}
-use Rattle.records.specs.declared.types.Macroblock.TheVariants.{Skipped}
 use Rattle.records.specs.declared.types.PictureKind.{PictureKind}
 use Rattle.records.specs.Deliveries.{Whole, read}
 use Rattle.records.proofs.Wholes.{reads_whole}
@@ -13,7 +12,7 @@ use Rattle.motion.specs.declared.vectors.Vector.{Vector}
 use Rattle.motion.specs.Vectors.{zero_vector}
 use Rattle.pictures.specs.declared.layouts.Segment.{Segment}
 use Rattle.pictures.specs.Pictures.{covers, side}
-use Rattle.rebuild.specs.Rebuilt.{accepted, count_of, set_from, width_of}
+use Rattle.rebuild.specs.Rebuilt.{accepted, count_of, set_from}
 use Rattle.rebuild.specs.Segments.{cell_at, samples_by}
 
 -- an accepted delivery has its records, one for each macroblock

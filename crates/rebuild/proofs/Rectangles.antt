@@ -1,5 +1,5 @@
 -- Rectangles of macroblocks that grow column by column and row by row.
-use Rattle.std.proofs.Common.{◌≡◌, ℕ, zero, suc, ◌+◌, ◌-◌, ◌*◌, ◌/◌, ◌<◌, ◌≤◌, Bool, true, false, ◌&&◌, ◌||◌, eqb, ltb, leb, List, ◌∷◌, length, get_or, drop, ℤ, sym, refl, ap, ◌∙◌, add-mul, arith, get_or-drop}
+use Rattle.std.proofs.Common.{◌≡◌, ℕ, zero, suc, ◌+◌, ◌-◌, ◌*◌, ◌/◌, ◌<◌, ◌≤◌, Bool, true, false, ◌&&◌, ◌||◌, ltb, leb, List, ◌∷◌, length, get_or, drop, ℤ, sym, refl, ap, ◌∙◌, add-mul, arith, get_or-drop}
 use Rattle.std.proofs.lemmas.List.{drop_more}
 use Rattle.records.specs.declared.types.Macroblock.{Macroblock}
 use Rattle.records.specs.declared.types.Macroblock.TheVariants.{Skipped}

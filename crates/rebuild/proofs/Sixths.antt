@@ -1,11 +1,11 @@
 -- The places of a macroblock, block by block.
-use Rattle.std.proofs.Common.{◌≡◌, ℕ, zero, suc, ◌+◌, ◌-◌, ◌*◌, ◌/◌, ◌%◌, ◌<◌, ◌≤◌, Bool, true, false, cond, ◌&&◌, ◌||◌, eqb, ltb, leb, List, get_or, replicate, ℤ, pos, sym, refl, ap, ◌∙◌, arith}
+use Rattle.std.proofs.Common.{◌≡◌, ℕ, zero, suc, ◌+◌, ◌*◌, ◌%◌, ◌<◌, ◌≤◌, Bool, true, false, ◌&&◌, ◌||◌, eqb, ltb, List, get_or, replicate, ℤ, pos, refl, arith}
 use Rattle.records.specs.declared.types.Macroblock.{Macroblock}
 use Rattle.records.specs.declared.types.Macroblock.TheVariants.{Skipped, Inter, Intra}
 use Rattle.motion.specs.declared.vectors.Vector.{Vector}
 use Rattle.pictures.specs.declared.layouts.Segment.{Segment}
 use Rattle.std.proofs.lemmas.Bool.Decides.{nat_tests}
-use Rattle.pictures.specs.Pictures.{Picture, covers, has, inside, painted, side}
+use Rattle.pictures.specs.Pictures.{Picture, covers, has, inside, painted}
 use Rattle.pictures.proofs.Painting.{same_picture}
 use Rattle.rebuild.specs.declared.source.Source.{Source}
 use Rattle.rebuild.specs.Blocks.{block_at, summed}

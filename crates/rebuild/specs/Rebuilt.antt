@@ -1,9 +1,8 @@
 -- What an accepted delivery makes of its segment. Assumes nothing.
-use Rattle.std.specs.Prelude.{ℕ, ◌+◌, ◌-◌, ◌*◌, List, [], ◌++◌, length, take, drop, ℤ, Ok, Err, Option, Result}
+use Rattle.std.specs.Prelude.{ℕ, ◌-◌, ◌*◌, List, [], ◌++◌, length, take, drop, ℤ, Ok, Err, Option, Result}
 use Rattle.records.specs.declared.types.Macroblock.{Macroblock}
 use Rattle.records.specs.declared.types.PictureKind.{PictureKind}
 use Rattle.records.specs.Deliveries.{read}
-use Rattle.motion.specs.declared.vectors.Vector.{Vector}
 use Rattle.motion.specs.Vectors.{vectors_of}
 use Rattle.pictures.specs.declared.layouts.Segment.{Segment}
 use Rattle.pictures.specs.Pictures.{Picture, covers, painted}

@@ -20,7 +20,7 @@ fn predicted_sample<S: Store>(
     x: usize,
     y: usize,
 ) -> u8
-    requires left_lt_right { (segment.left < segment.right) × ((segment.right ≤ 22) × ((segment.top < segment.bottom) × (segment.bottom ≤ 22))) }
+    requires bounds { (segment.left < segment.right) × ((segment.right ≤ 22) × ((segment.top < segment.bottom) × (segment.bottom ≤ 22))) }
     requires small { (x ≤ 65535) × (y ≤ 65535) }
     ensures { result ≡ predicted_from segment (rounding_of rounding) (S.picture finished.now).sample source plane x y }
 {
@@ -58,7 +58,7 @@ pub fn rebuild_block<S: Store>(
     top: usize,
     residual: &[i16; 64],
 )
-    requires left_lt_right { (segment.left < segment.right) × ((segment.right ≤ 22) × ((segment.top < segment.bottom) × (segment.bottom ≤ 22))) }
+    requires bounds { (segment.left < segment.right) × ((segment.right ≤ 22) × ((segment.top < segment.bottom) × (segment.bottom ≤ 22))) }
     requires place { (left ≤ 1000) × ((left % 8 ≡ 0) × ((top ≤ 1000) × (top % 8 ≡ 0))) }
     ensures { S.picture working.new ≡ painted (block_at plane left top) (summed segment (rounding_of rounding) (S.picture finished.now).sample source residual.now) (S.picture working.old) }
 {

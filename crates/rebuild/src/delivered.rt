@@ -63,7 +63,7 @@ pub fn rebuild_segment<S: Store, T: Transform>(
     vectors: &mut [Vector],
     marks: &mut [Option<u8>],
 )
-    requires left_lt_right { (segment.left < segment.right) × ((segment.right ≤ 22) × ((segment.top < segment.bottom) × (segment.bottom ≤ 22))) }
+    requires bounds { (segment.left < segment.right) × ((segment.right ≤ 22) × ((segment.top < segment.bottom) × (segment.bottom ≤ 22))) }
     requires accepted { is_ok (read kind (count_of segment) bytes.now) ≡ true }
     requires finished { segment.bottom * width_of segment ≤ length finished_ages.now }
     requires ages { segment.bottom * width_of segment ≤ length ages.old }

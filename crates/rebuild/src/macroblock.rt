@@ -124,7 +124,7 @@ fn rebuild_coded<S: Store, T: Transform>(
     macroblock: &Macroblock,
     vector: Vector,
 )
-    requires left_lt_right { (segment.left < segment.right) × ((segment.right ≤ 22) × ((segment.top < segment.bottom) × (segment.bottom ≤ 22))) }
+    requires bounds { (segment.left < segment.right) × ((segment.right ≤ 22) × ((segment.top < segment.bottom) × (segment.bottom ≤ 22))) }
     requires place { (column ≤ 22) × (row ≤ 22) }
     ensures { S.picture working.new ≡ painted (macroblock_at column row) (coded_sample (T.meaning transform.now) segment (rounding_of rounding) (S.picture finished.now).sample macroblock.now vector) (S.picture working.old) }
 {
@@ -175,7 +175,7 @@ pub fn rebuild_macroblock<S: Store, T: Transform>(
     macroblock: &Macroblock,
     vector: Vector,
 )
-    requires left_lt_right { (segment.left < segment.right) × ((segment.right ≤ 22) × ((segment.top < segment.bottom) × (segment.bottom ≤ 22))) }
+    requires bounds { (segment.left < segment.right) × ((segment.right ≤ 22) × ((segment.top < segment.bottom) × (segment.bottom ≤ 22))) }
     requires place { (column ≤ 22) × (row ≤ 22) }
     ensures { S.picture working.new ≡ painted (macroblock_at column row) (macroblock_sample (T.meaning transform.now) segment (rounding_of rounding) (S.picture finished.now).sample macroblock.now vector) (S.picture working.old) }
 {

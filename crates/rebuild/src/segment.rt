@@ -25,7 +25,7 @@ fn rebuild_row<S: Store, T: Transform>(
     first: usize,
     delivery: &mut Delivery,
 )
-    requires left_lt_right { (segment.left < segment.right) × ((segment.right ≤ 22) × ((segment.top < segment.bottom) × (segment.bottom ≤ 22))) }
+    requires bounds { (segment.left < segment.right) × ((segment.right ≤ 22) × ((segment.top < segment.bottom) × (segment.bottom ≤ 22))) }
     requires row { (row ≤ 22) × (first ≤ 65535) }
     requires records { segment.right - segment.left ≤ length (records_of delivery.old) }
     ensures samples { S.picture working.new ≡ painted (covers (record { left = segment.left; right = segment.right; top = row; bottom = row + 1 })) (samples_by (T.meaning transform.now) segment (rounding_of rounding) (S.picture finished.now).sample (records_of delivery.old) (drop first vectors.now) (column_at segment)) (S.picture working.old) }
@@ -61,7 +61,7 @@ pub(crate) fn rebuild_samples<S: Store, T: Transform>(
     start: usize,
     mut delivery: Delivery,
 )
-    requires left_lt_right { (segment.left < segment.right) × ((segment.right ≤ 22) × ((segment.top < segment.bottom) × (segment.bottom ≤ 22))) }
+    requires bounds { (segment.left < segment.right) × ((segment.right ≤ 22) × ((segment.top < segment.bottom) × (segment.bottom ≤ 22))) }
     requires records { ((segment.bottom - segment.top) * (segment.right - segment.left) ≤ length (records_of delivery)) × (start ≤ 5000) }
     ensures { S.picture working.new ≡ painted (covers segment) (samples_by (T.meaning transform.now) segment (rounding_of rounding) (S.picture finished.now).sample (records_of delivery.entry) (drop start vectors.now) (cell_at segment)) (S.picture working.old) }
 {

@@ -52,7 +52,7 @@ fn rebuild_in<S: Store, T: Transform>(
     kind: PictureKind,
     bytes: &[u8],
 )
-    requires left_lt_right { (segment.left < segment.right) × ((segment.right ≤ 22) × ((segment.top < segment.bottom) × (segment.bottom ≤ 22))) }
+    requires bounds { (segment.left < segment.right) × ((segment.right ≤ 22) × ((segment.top < segment.bottom) × (segment.bottom ≤ 22))) }
     requires accepted { is_ok (read kind (count_of segment) bytes.now) ≡ true }
     requires finished { segment.bottom * width_of segment ≤ vec_len memory.old.finished_ages }
     requires ages { segment.bottom * width_of segment ≤ vec_len memory.old.working_ages }

@@ -1,4 +1,4 @@
-use Rattle.std.proofs.Common.{◌≡◌, get_or, pos, sym, refl, ap, ◌∙◌, arith, w16, SFits, rules}
+use Rattle.std.proofs.Common.{get_or, pos, refl, ◌∙◌, arith, w16, SFits, rules}
 use Rattle.std.proofs.lemmas.Int.{to_z-of_z}
 use Rattle.pictures.proofs.Painting.{alike, none, step}
 use Rattle.rebuild.specs.Blocks.{summed}
@@ -14,8 +14,8 @@ loop-place-preserved g c =
     let value = get_or c.args.residual.now c.loop-place.place (pos 0) in
     let fits : SFits w16 value = search rules in
     step (block_up_to c.args.plane c.args.left c.args.top c.loop-place.place) (block_up_to c.args.plane c.args.left c.args.top _) _ _ _ _ _ _ _ _
-    c.loop-place.invariant c.set-sample.ensures
-    (sample_is _ _ _ c.loop-place.place _ _ c.args.residual.now refl (to_z-of_z w16 value fits) c.predicted-sample-prediction.ensures
+    c.loop-place.invariant c.set_sample.ensures
+    (sample_is _ _ _ c.loop-place.place _ _ c.args.residual.now refl (to_z-of_z w16 value fits) c.predicted_sample-prediction.ensures
     (place_of c.args.left c.args.top c.loop-place.place (omega arith) (omega arith) (omega arith)))
     (λ q u v. block_more _ _ _ c.loop-place.place q u v (omega arith))
 

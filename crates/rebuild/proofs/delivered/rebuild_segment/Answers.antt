@@ -1,6 +1,5 @@
-use Rattle.std.proofs.Common.{◌≡◌, ◌+◌, ◌-◌, ◌*◌, ◌≤◌, length, get_or, drop, sym, refl, ap, ◌∙◌, arith, rules}
+use Rattle.std.proofs.Common.{◌-◌, ◌≤◌, length, get_or, drop, sym, ap, ◌∙◌, arith}
 use Rattle.std.proofs.lemmas.Nat.{mul-le}
-use Rattle.records.specs.Again.{records_of}
 use Rattle.motion.specs.Cells.{ages_of, marks_of}
 use Rattle.motion.specs.Vectors.{vectors_of, zero_vector}
 use Rattle.motion.proofs.Gathered.{vectors_length}
@@ -14,8 +13,8 @@ use Rattle.rebuild.proofs.Independence.{independent}
 use Rattle.rebuild.proofs.Sixths.{agreeing}
 use Rattle.rebuild.proofs.delivered.rebuild_segment.Goals as goal
 
-pub set-cells-from-requires : goal.set-cells-from-requires
-set-cells-from-requires g c =
+pub set_cells_from-requires : goal.set_cells_from-requires
+set_cells_from-requires g c =
     let s = c.args.segment in
     let w = s.right - s.left in
     let all = all_there _ _ _ _ c.new.ensures in
@@ -31,15 +30,15 @@ set-cells-from-requires g c =
       marks = omega (arith, all, join, c.requires.marks);
     }
 
-pub rebuild-samples-requires : goal.rebuild-samples-requires
-rebuild-samples-requires g c =
+pub rebuild_samples-requires : goal.rebuild_samples-requires
+rebuild_samples-requires g c =
     let s = c.args.segment in
     let w = s.right - s.left in
     let all = all_there _ _ _ _ c.new-2.ensures in
     let wide : w ≤ 22 = omega arith in
     let high : s.top ≤ 22 = omega arith in
     let few = mul-le s.top w 22 22 high wide in
-    record { 0 = c.requires.0; records = (omega (arith, all), omega (arith, few)) }
+    record { bounds = c.requires.bounds; records = (omega (arith, all), omega (arith, few)) }
 
 pub returns : goal.returns
 returns g c =
@@ -49,7 +48,7 @@ returns g c =
     let records = accepted a.kind (count_of s) a.bytes.now in
     let one = sym (accepted_is _ _ _ _ c.new.ensures) in
     let two = sym (accepted_is _ _ _ _ c.new-2.ensures) in
-    let cells = c.set-cells-from.ensures in
+    let cells = c.set_cells_from.ensures in
     let vectors = cells.vectors ∙ ap (λ rs. set_from (first_cell s) (vectors_of w rs) a.vectors.now) one in
     let meaning = g.T.Transform.meaning a.transform.now in
     let finished = (g.S.Store.picture a.finished.now).sample in
@@ -57,9 +56,9 @@ returns g c =
     let all = ap length (sym two) ∙ all_there _ _ _ _ c.new-2.ensures in
     let join = rows_join s.top s.bottom w (omega arith) in
     record {
-      samples = c.deblock-segment.ensures.after ∙ ap (filtered c.set-cells-from.new.marks s) (
-          c.rebuild-samples.ensures
-          ∙ ap (λ rs. painted (covers s) (samples_by meaning s rounding finished rs (drop (first_cell s) c.set-cells-from.new.vectors) (cell_at s)) (g.S.Store.picture a.working.now)) two
+      samples = c.deblock_segment.ensures.after ∙ ap (filtered c.set_cells_from.new.marks s) (
+          c.rebuild_samples.ensures
+          ∙ ap (λ rs. painted (covers s) (samples_by meaning s rounding finished rs (drop (first_cell s) c.set_cells_from.new.vectors) (cell_at s)) (g.S.Store.picture a.working.now)) two
           ∙ agreeing (covers s) _ (samples_by meaning s rounding finished records (vectors_of w records) (cell_at s)) (g.S.Store.picture a.working.now) (λ q u v e.
           same_vectors meaning s rounding finished records _ (vectors_of w records) q u v
           (ap (λ vs. get_or (drop (first_cell s) vs) (cell_at s q u v) zero_vector) vectors

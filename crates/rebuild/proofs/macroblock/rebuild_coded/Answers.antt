@@ -1,4 +1,4 @@
-use Rattle.std.proofs.Common.{◌≡◌, ◌+◌, ◌%◌, sym, refl, ap, ◌∙◌, arith, rules}
+use Rattle.std.proofs.Common.{◌+◌, ◌%◌, ap, ◌∙◌, arith}
 use Rattle.pictures.proofs.Painting.{alike, both, none}
 use Rattle.samples.specs.Prediction.{rounding_of}
 use Rattle.rebuild.specs.Blocks.{block_at}
@@ -13,14 +13,14 @@ pub loop-block-preserved : goal.loop-block-preserved
 loop-block-preserved g c =
     let a = c.args in
     let b = c.loop-block.block in
-    let place = c.place-of-place.ensures in
+    let place = c.place_of-place.ensures in
     let new = coded_sample (g.T.Transform.meaning a.transform.now) a.segment (rounding_of a.rounding) (g.S.Store.picture a.finished.now).sample a.macroblock.now a.vector in
     both (macroblock_up_to a.column a.row b) (block_at (plane_of b) (left_in a.column b) (top_in a.row b)) (macroblock_up_to a.column a.row (b + 1)) new
-    _ (g.S.Store.picture c.loop-block.working) (g.S.Store.picture c.rebuild-block.new.working) c.loop-block.invariant
-    (simp (place.plane, place.left, place.top) at c.rebuild-block.ensures
+    _ (g.S.Store.picture c.loop-block.working) (g.S.Store.picture c.rebuild_block.new.working) c.loop-block.invariant
+    (simp (place.plane, place.left, place.top) at c.rebuild_block.ensures
     ∙ agreeing _ _ new _ (λ q u v e.
     let i = in_block a.column a.row b q u v (omega arith) e in
-    block_samples _ _ _ _ _ _ c.source-for-source.result _ (plane_of b) b q u v (c.source-for-source.ensures ∙ ap (source_for a.macroblock.now a.vector) place.plane) i.0 i.1 (c.residual-of-residual.ensures (u % 8) (v % 8) (omega arith) (omega arith))))
+    block_samples _ _ _ _ _ _ c.source_for-source.result _ (plane_of b) b q u v (c.source_for-source.ensures ∙ ap (source_for a.macroblock.now a.vector) place.plane) i.0 i.1 (c.residual_of-residual.ensures (u % 8) (v % 8) (omega arith) (omega arith))))
     (λ q u v. blocks_more a.column a.row b q u v (omega arith))
 
 pub returns : goal.returns

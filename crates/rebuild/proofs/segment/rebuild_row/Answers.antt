@@ -1,4 +1,4 @@
-use Rattle.std.proofs.Common.{◌≡◌, ◌+◌, ◌-◌, ◌<◌, length, drop, sym, refl, ap, ◌∙◌, arith, length-drop, get_or-drop, rules}
+use Rattle.std.proofs.Common.{◌≡◌, ◌+◌, ◌-◌, length, drop, sym, refl, ap, ◌∙◌, arith, length-drop, get_or-drop}
 use Rattle.motion.specs.Vectors.{zero_vector}
 use Rattle.records.specs.Again.{records_of}
 use Rattle.records.specs.declared.types.Macroblock.TheVariants.{Skipped}
@@ -14,9 +14,9 @@ use Rattle.rebuild.proofs.segment.rebuild_row.Goals as goal
 pub loop-column-init : goal.loop-column-init
 loop-column-init g c = let e : c.args.segment.left - c.args.segment.left ≡ 0 = omega arith in (none _ _ _ (no_columns _ _ _), rw e refl)
 
-pub returns-in-default : goal.returns-in-default
-returns-in-default g c =
-    absurd (omega (arith, ap length (sym c.in-default.ensures ∙ c.loop-column.invariant.1), length-drop (c.loop-column.column - c.args.segment.left) (records_of c.args.delivery.now), c.requires.records, c.loop-column.auto.column))
+pub returns-in_default : goal.returns-in_default
+returns-in_default g c =
+    absurd (omega (arith, ap length (sym c.in_default.ensures ∙ c.loop-column.invariant.1), length-drop (c.loop-column.column - c.args.segment.left) (records_of c.args.delivery.now), c.requires.records, c.loop-column.auto.column))
 
 pub loop-column-preserved : goal.loop-column-preserved
 loop-column-preserved g c =
@@ -30,9 +30,9 @@ loop-column-preserved g c =
     let new = samples_by (g.T.Transform.meaning a.transform.now) s (rounding_of a.rounding) (g.S.Store.picture a.finished.now).sample records (drop a.first a.vectors.now) (column_at s) in
     let one : column + 1 - s.left ≡ i + 1 = omega (arith, c.loop-column.auto.column) in (
       both (rectangle s.left column a.row (a.row + 1)) (macroblock_at column a.row) (rectangle s.left (column + 1) a.row (a.row + 1)) new
-          _ (g.S.Store.picture c.loop-column.working) (g.S.Store.picture c.rebuild-macroblock.new.working) c.loop-column.invariant.0
-          (c.rebuild-macroblock.ensures ∙ agreeing _ _ new _ (λ q u v e.
-          samples_by_lem _ _ _ _ records (drop a.first a.vectors.now) (column_at s) _ _ q u v i (ap (λ k. k - s.left) (column_of column a.row q u v e)) (next_is records i Skipped _ _ n.within came) (c.vector-at-vector.ensures ∙ sym (get_or-drop a.first a.vectors.now i zero_vector))))
+          _ (g.S.Store.picture c.loop-column.working) (g.S.Store.picture c.rebuild_macroblock.new.working) c.loop-column.invariant.0
+          (c.rebuild_macroblock.ensures ∙ agreeing _ _ new _ (λ q u v e.
+          samples_by_lem _ _ _ _ records (drop a.first a.vectors.now) (column_at s) _ _ q u v i (ap (λ k. k - s.left) (column_of column a.row q u v e)) (next_is records i Skipped _ _ n.within came) (c.vector_at-vector.ensures ∙ sym (get_or-drop a.first a.vectors.now i zero_vector))))
           (λ q u v. columns_more s.left column a.row q u v (omega (arith, c.loop-column.auto.column))),
       n.left ∙ ap (λ k. drop k records) (sym one),
     )

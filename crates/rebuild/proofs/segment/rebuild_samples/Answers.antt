@@ -1,4 +1,4 @@
-use Rattle.std.proofs.Common.{◌≡◌, ◌+◌, ◌-◌, ◌*◌, ◌≤◌, length, drop, sym, refl, ap, ◌∙◌, mul-le-mul_right, zero-mul, arith, length-drop, rules}
+use Rattle.std.proofs.Common.{◌≡◌, ◌+◌, ◌-◌, ◌*◌, ◌≤◌, drop, sym, refl, ap, ◌∙◌, mul-le-mul_right, zero-mul, arith, length-drop}
 use Rattle.std.proofs.lemmas.Nat.{mul-le}
 use Rattle.std.proofs.lemmas.List.{drop-drop}
 use Rattle.records.specs.Again.{records_of}
@@ -25,12 +25,12 @@ loop-row-preserved g c =
     let new = samples_by (g.T.Transform.meaning a.transform.now) s (rounding_of a.rounding) (g.S.Store.picture a.finished.now).sample records (drop a.start a.vectors.now) (cell_at s) in
     let part = samples_by (g.T.Transform.meaning a.transform.now) s (rounding_of a.rounding) (g.S.Store.picture a.finished.now).sample (records_of c.loop-row.delivery) (drop (a.start + first) a.vectors.now) (column_at s) in (
       both (rectangle s.left s.right s.top row) (rectangle s.left s.right row (row + 1)) (rectangle s.left s.right s.top (row + 1)) new
-          _ (g.S.Store.picture c.loop-row.working) (g.S.Store.picture c.rebuild-row.new.working) c.loop-row.invariant.0
-          (c.rebuild-row.ensures.samples
+          _ (g.S.Store.picture c.loop-row.working) (g.S.Store.picture c.rebuild_row.new.working) c.loop-row.invariant.0
+          (c.rebuild_row.ensures.samples
           ∙ alike _ (rectangle s.left s.right row (row + 1)) part (g.S.Store.picture c.loop-row.working) (λ q u v h. sym (rectangle_covers (g.S.Store.picture c.loop-row.working) (record { left = s.left; right = s.right; top = row; bottom = row + 1 }) q u v h))
           ∙ agreeing _ part new (g.S.Store.picture c.loop-row.working) (λ q u v e. row_samples _ s _ _ records _ (drop a.start a.vectors.now) _ row first q u v refl c.loop-row.invariant.1 (sym (drop-drop first a.start a.vectors.now)) e))
           (λ q u v. rows_more s.left s.right s.top row q u v c.loop-row.auto.row),
-      c.rebuild-row.ensures.records ∙ ap (drop (s.right - s.left)) c.loop-row.invariant.1 ∙ drop-drop (s.right - s.left) first records ∙ ap (λ k. drop k records) (row_cells row s.top (s.right - s.left) c.loop-row.auto.row),
+      c.rebuild_row.ensures.records ∙ ap (drop (s.right - s.left)) c.loop-row.invariant.1 ∙ drop-drop (s.right - s.left) first records ∙ ap (λ k. drop k records) (row_cells row s.top (s.right - s.left) c.loop-row.auto.row),
     )
 
 pub returns : goal.returns
@@ -39,8 +39,8 @@ returns g c =
     let end : c.loop-row.row ≡ s.bottom = omega (arith, c.loop-row.auto) in
     rw end at c.loop-row.invariant.0 ∙ alike _ _ _ _ (λ q u v h. rectangle_covers (g.S.Store.picture c.args.working.now) s q u v h)
 
-pub rebuild-row-requires : goal.rebuild-row-requires
-rebuild-row-requires g c =
+pub rebuild_row-requires : goal.rebuild_row-requires
+rebuild_row-requires g c =
     let s = c.args.segment in
     let row = c.loop-row.row in
     let w = s.right - s.left in
@@ -50,7 +50,7 @@ rebuild-row-requires g c =
     let high : row - s.top ≤ 22 = omega arith in
     let small = mul-le (row - s.top) w 22 22 high wide in
     record {
-      0 = c.requires.0;
+      bounds = c.requires.bounds;
       row = (omega arith, omega (arith, small, c.requires.records.1));
       records = rw c.loop-row.invariant.1 (simp length-drop (omega (arith, c.requires.records.0, mul-le-mul_right w down, next)));
     }
