@@ -16,7 +16,7 @@ use Rattle.pictures.proofs.Rows.{segmented}
 use Rattle.rebuild.specs.Rebuilt.{count_of, first_cell, width_of}
 use Rattle.rebuild.proofs.Cells.{all_there, rows_join}
 use Rattle.calls.specs.declared.faults.PictureFault.{PictureFault}
-use Rattle.calls.specs.Held.{Held, cells_of, fits, fits_rest, fits_store, fits_table}
+use Rattle.calls.specs.Held.{Held, cells_of, fits, fits_store, fits_table}
 use Rattle.calls.specs.Questions.{judge_closing, judge_delivery, judge_opening}
 use Rattle.calls.specs.Effects.{filled_picture, picture_closed, segment_rebuilt}
 use Rattle.calls.specs.Runs.{Calling, opening, delivering, closing, asking_sample, asking_age, Contents, Control, Setting, State, after, all_fit, control, finish, moved, open_to, resting, run, setting_of, step, unmarked, when_read}

@@ -1,5 +1,5 @@
 -- The questions put to each call, in their order; the first no is the fault. Questions about a delivery's words are those of its reading.
-use Rattle.std.specs.Prelude.{ℕ, ◌-◌, ◌*◌, Bool, true, false, cond, not, ◌&&◌, ◌||◌, List, Some, None, Ok, Err, Option, Result, ◌==◌, nat_lt}
+use Rattle.std.specs.Prelude.{ℕ, Bool, true, false, cond, not, ◌&&◌, ◌||◌, List, Some, None, Ok, Option, Result, ◌==◌, nat_lt}
 use Rattle.records.specs.declared.types.Macroblock.{Macroblock}
 use Rattle.records.specs.declared.types.PictureKind.{PictureKind}
 use Rattle.records.specs.declared.types.PictureKind.TheVariants as picture
