@@ -1,5 +1,5 @@
 -- What a memory holds, part by part.
-use Rattle.std.proofs.Common.{◌≡◌, ℕ, List, drop, ℤ, Option, sym, refl, ap, ◌∙◌}
+use Rattle.std.proofs.Common.{◌≡◌, ℕ, List, drop, ℤ, Option, sym, ap, ◌∙◌}
 use Rattle.records.specs.declared.types.Macroblock.{Macroblock}
 use Rattle.samples.specs.declared.prediction.Rounding.{Rounding}
 use Rattle.samples.specs.Prediction.{rounding_of}

@@ -1,5 +1,5 @@
 -- What the calls answer and hand on, by the outcome of their questions.
-use Rattle.std.specs.Prelude.{ℕ, ◌+◌, ◌^◌, true, false, List, ℤ, Some, None, Ok, Err, Option, Result, bit_or}
+use Rattle.std.specs.Prelude.{ℕ, ◌+◌, ◌^◌, false, List, ℤ, Some, None, Ok, Err, Option, Result, bit_or}
 use Rattle.records.specs.declared.types.Delivered.{Delivered}
 use Rattle.records.specs.declared.types.Macroblock.{Macroblock}
 use Rattle.records.specs.Deliveries.{delivered_of}
@@ -9,7 +9,7 @@ use Rattle.pictures.specs.Segments.{segment_at, segment_count}
 use Rattle.calls.specs.declared.faults.PictureFault.{PictureFault}
 use Rattle.calls.specs.declared.faults.PictureFault.TheVariants as fault
 use Rattle.calls.specs.Held.{Held, fits}
-use Rattle.calls.specs.Questions.{judge_closing, judge_delivery, kind_of, rounding_from}
+use Rattle.calls.specs.Questions.{judge_delivery, kind_of, rounding_from}
 use Rattle.calls.specs.Effects.{picture_closed, segment_rebuilt}
 use Rattle.reel.specs.declared.reels.Reel.{Reel}
 use Rattle.reel.specs.declared.reels.Slip.{Slip}

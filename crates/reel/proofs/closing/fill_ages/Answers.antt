@@ -1,4 +1,4 @@
-use Rattle.std.proofs.Common.{◌≡◌, ◌/◌, cond, length, get_or, ap, ◌∙◌, arith}
+use Rattle.std.proofs.Common.{◌/◌, cond, get_or, ap, ◌∙◌, arith}
 use Rattle.pictures.specs.Formats.{columns_of}
 use Rattle.calls.specs.Effects.{fill_age, missing}
 use Rattle.reel.proofs.Filled.{ages_all, ages_more}
@@ -8,10 +8,10 @@ pub loop-cell-preserved : goal.loop-cell-preserved
 loop-cell-preserved c =
     let cell = c.loop-cell.cell in
     ages_more (λ i. missing c.args.layout c.args.accepted (i / columns_of c.args.format)) c.args.kind c.args.finished.now c.loop-cell.working _ cell
-    c.closing-age.result (omega arith) (omega arith)
-    (c.closing-age.ensures
+    c.closing_age.result (omega arith) (omega arith)
+    (c.closing_age.ensures
     ∙ ap (λ b. cond b (fill_age c.args.kind (get_or c.args.finished.now cell 0)) (get_or c.loop-cell.working cell 0))
-    (c.is-missing-missing.ensures ∙ ap (λ n. missing c.args.layout c.args.accepted (cell / n)) c.columns-columns.ensures.value))
+    (c.is_missing-missing.ensures ∙ ap (λ n. missing c.args.layout c.args.accepted (cell / n)) c.columns-columns.ensures.value))
     c.loop-cell.invariant
 
 pub returns : goal.returns

@@ -1,4 +1,4 @@
-use Rattle.std.proofs.Common.{◌≡◌, not, ◌&&◌, ap, ◌∙◌, arith}
+use Rattle.std.proofs.Common.{not, ◌&&◌, ap, ◌∙◌, arith}
 use Rattle.pictures.specs.declared.layouts.Segment.{Segment}
 use Rattle.pictures.specs.Pictures.{covers, painted}
 use Rattle.pictures.specs.Segments.{has_bit}
@@ -10,8 +10,8 @@ use Rattle.reel.proofs.closing.fill_missing.Goals as goal
 pub loop-number-init : goal.loop-number-init
 loop-number-init g c = none _ _ _ (none_missing c.args.format c.args.layout c.args.accepted)
 
-pub has-mark-requires : goal.has-mark-requires
-has-mark-requires g c = omega (arith, c.segments-number-end.ensures.few, c.loop-number-test.true)
+pub has_mark-requires : goal.has_mark-requires
+has_mark-requires g c = omega (arith, c.segments-number-end.ensures.few, c.loop-number-test.true)
 
 pub loop-number-preserved : goal.loop-number-preserved
 loop-number-preserved g c =
@@ -19,8 +19,8 @@ loop-number-preserved g c =
     let before = g.S.Store.picture c.loop-number.working in
     fill_more c.args.format c.args.layout c.args.accepted c.loop-number.number new (g.S.Store.picture c.args.working.now) before _
     c.requires.0 c.requires.1 c.loop-number.invariant
-    (c.fill-if-missing.ensures
-    ∙ ap (λ b. painted (λ q u v. not b && covers c.segment-segment.result q u v) new before) c.has-mark.ensures
+    (c.fill_if_missing.ensures
+    ∙ ap (λ b. painted (λ q u v. not b && covers c.segment-segment.result q u v) new before) c.has_mark.ensures
     ∙ ap (λ (s : Segment). painted (λ q u v. not (has_bit c.args.accepted c.loop-number.number) && covers s q u v) new before) c.segment-segment.ensures.value)
 
 pub returns : goal.returns

@@ -7,40 +7,40 @@ use Rattle.calls.proofs.Sizes.{fitting}
 use Rattle.reel.proofs.Holding.{closed_held}
 use Rattle.reel.proofs.closing.finish.Goals as goal
 
-pub fill-missing-requires : goal.fill-missing-requires
-fill-missing-requires g c =
+pub fill_missing-requires : goal.fill_missing-requires
+fill_missing-requires g c =
     let size = fitting c.args.format (held_in g.S.Store.picture c.args.memory.now) c.requires in
     (size.working_wide, size.working_high)
 
-pub fill-ages-requires : goal.fill-ages-requires
-fill-ages-requires g c =
+pub fill_ages-requires : goal.fill_ages-requires
+fill_ages-requires g c =
     let size = fitting c.args.format (held_in g.S.Store.picture c.args.memory.now) c.requires in
-    (ap length c.deref.ensures.value ∙ size.finished_ages, ap length c.deref-mut.ensures.value ∙ size.working_ages)
+    (ap length c.deref.ensures.value ∙ size.finished_ages, ap length c.deref_mut.ensures.value ∙ size.working_ages)
 
-pub keep-ages-requires : goal.keep-ages-requires
-keep-ages-requires g c =
+pub keep_ages-requires : goal.keep_ages-requires
+keep_ages-requires g c =
     let size = fitting c.args.format (held_in g.S.Store.picture c.args.memory.now) c.requires in
     let was = c.args.memory.now in
-    let ages = c.fill-ages.new.working in
-    let kept : (with_items was.working_ages ages).items ≡ ages = with_items_is was.working_ages ages (c.fill-ages.auto.working ∙ c.deref-mut.ensures.len) in
-    ap length (c.deref-2.ensures.value ∙ kept) ∙ c.fill-ages.auto.working ∙ ap length c.deref-mut.ensures.value ∙ size.working_ages
-    ∙ sym (ap length c.deref-mut-2.ensures.value ∙ size.finished_ages)
+    let ages = c.fill_ages.new.working in
+    let kept : (with_items was.working_ages ages).items ≡ ages = with_items_is was.working_ages ages (c.fill_ages.auto.working ∙ c.deref_mut.ensures.len) in
+    ap length (c.deref-2.ensures.value ∙ kept) ∙ c.fill_ages.auto.working ∙ ap length c.deref_mut.ensures.value ∙ size.working_ages
+    ∙ sym (ap length c.deref_mut-2.ensures.value ∙ size.finished_ages)
 
 pub returns : goal.returns
 returns g c =
     let was = c.args.memory.now in
     let held = held_in g.S.Store.picture was in
     let size = fitting c.args.format held c.requires in
-    let ages = c.fill-ages.new.working in
-    let kept : (with_items was.working_ages ages).items ≡ ages = with_items_is was.working_ages ages (c.fill-ages.auto.working ∙ c.deref-mut.ensures.len) in
+    let ages = c.fill_ages.new.working in
+    let kept : (with_items was.working_ages ages).items ≡ ages = with_items_is was.working_ages ages (c.fill_ages.auto.working ∙ c.deref_mut.ensures.len) in
     let lent : c.deref-2.result.now ≡ ages = c.deref-2.ensures.value ∙ kept in
-    let finished = c.keep-ages.new.finished in
-    let copied : (with_items was.finished_ages finished).items ≡ finished = with_items_is was.finished_ages finished (c.keep-ages.auto.finished ∙ c.deref-mut-2.ensures.len) in
+    let finished = c.keep_ages.new.finished in
+    let copied : (with_items was.finished_ages finished).items ≡ finished = with_items_is was.finished_ages finished (c.keep_ages.auto.finished ∙ c.deref_mut-2.ensures.len) in
     closed_held c.args.format c.args.kind c.args.layout c.args.accepted held _ size
-    c.fill-missing.ensures
-    c.copy-picture.ensures.whole
-    (kept ∙ c.fill-ages.ensures
-    ∙ ap (λ xs. filled_ages c.args.format c.args.kind c.args.layout c.args.accepted xs c.deref-mut.result.now) c.deref.ensures.value
-    ∙ ap (filled_ages c.args.format c.args.kind c.args.layout c.args.accepted (vec_items was.finished_ages)) c.deref-mut.ensures.value)
-    (copied ∙ c.keep-ages.ensures ∙ lent ∙ sym kept)
+    c.fill_missing.ensures
+    c.copy_picture.ensures.whole
+    (kept ∙ c.fill_ages.ensures
+    ∙ ap (λ xs. filled_ages c.args.format c.args.kind c.args.layout c.args.accepted xs c.deref_mut.result.now) c.deref.ensures.value
+    ∙ ap (filled_ages c.args.format c.args.kind c.args.layout c.args.accepted (vec_items was.finished_ages)) c.deref_mut.ensures.value)
+    (copied ∙ c.keep_ages.ensures ∙ lent ∙ sym kept)
     refl refl

@@ -4,8 +4,8 @@ use Rattle.pictures.specs.Pictures.{inside}
 use Rattle.reel.proofs.Places.{no_plane}
 use Rattle.reel.proofs.questions.read_sample.Goals as goal
 
-pub returns-in-default : goal.returns-in-default
-returns-in-default g c =
+pub returns-in_default : goal.returns-in_default
+returns-in_default g c =
     let e : inside (columns_of c.args.format) (rows_of c.args.format) c.args.plane c.args.across c.args.down ≡ false
-    = no_plane _ _ c.args.plane c.args.across c.args.down c.in-default.ensures in
+    = no_plane _ _ c.args.plane c.args.across c.args.down c.in_default.ensures in
     search rules

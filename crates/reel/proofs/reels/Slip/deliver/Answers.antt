@@ -1,9 +1,7 @@
-use Rattle.std.proofs.Common.{◌≡◌, ◌*◌, ◌<◌, ◌≤◌, true, is_ok, Ok, Err, vec_len, sym, refl, ap, ◌∙◌, arith}
-use Rattle.records.specs.Deliveries.{read}
-use Rattle.pictures.specs.Segments.{segment_at}
+use Rattle.std.proofs.Common.{◌≡◌, ◌<◌, Ok, Err, vec_len, sym, refl, ap, ◌∙◌, arith}
 use Rattle.pictures.specs.declared.layouts.Segment.{Segment}
 use Rattle.pictures.proofs.Rows.{segmented}
-use Rattle.rebuild.specs.Rebuilt.{accepted, count_of, width_of}
+use Rattle.rebuild.specs.Rebuilt.{accepted, count_of}
 use Rattle.calls.specs.Effects.{segment_rebuilt}
 use Rattle.calls.specs.Held.{fits}
 use Rattle.reel.specs.Calls.{held_after, judged}
@@ -20,8 +18,8 @@ returns-in-Err g c =
     = delivery_refused c.args.self held c.args.segment c.args.bytes.now c.fits.result c.fits.ensures c.in-Err.fault c.in-Err.ensures in
     record { slip = rw e refl; answer = rw e refl; memory = rw e refl; format = refl; size = refl }
 
-pub rebuild-in-requires : goal.rebuild-in-requires
-rebuild-in-requires g c =
+pub rebuild_in-requires : goal.rebuild_in-requires
+rebuild_in-requires g c =
     let slip = c.args.self in
     let was = c.args.memory.now in
     let held = held_in g.S.Store.picture was in
@@ -33,7 +31,7 @@ rebuild-in-requires g c =
     let P : Segment → Type 0 = λ s. (s.left < s.right) × (s.top < s.bottom) in
     let some : P c.segment-rectangle.result = rw is (some_column slip.format, laws.some_row c.args.segment told.numbered) in
     record {
-      0 = (some.0, (within.1.0, (some.1, omega (arith, within.1.1.1))));
+      bounds = (some.0, (within.1.0, (some.1, omega (arith, within.1.1.1))));
       accepted = rw is told.readable;
       finished = rw is (room slip.format _ (vec_len was.finished_ages) (laws.in_picture c.args.segment) (was.finished_ages.ok.0 ∙ size.finished_ages));
       ages = rw is (room slip.format _ (vec_len was.working_ages) (laws.in_picture c.args.segment) (was.working_ages.ok.0 ∙ size.working_ages));
@@ -41,8 +39,8 @@ rebuild-in-requires g c =
       marks = rw is (room slip.format _ (vec_len was.marks) (laws.in_picture c.args.segment) (was.marks.ok.0 ∙ size.marks));
     }
 
-pub with-mark-requires : goal.with-mark-requires
-with-mark-requires g c =
+pub with_mark-requires : goal.with_mark-requires
+with_mark-requires g c =
     let slip = c.args.self in
     let held = held_in g.S.Store.picture c.args.memory.now in
     let told = delivery_granted slip held c.args.segment c.args.bytes.now c.fits.result c.fits.ensures c.in-Ok.counts c.in-Ok.ensures in
@@ -65,14 +63,14 @@ returns g c =
         layout = slip.layout;
         accepted = n;
         spent = slip.spent;
-      }) c.with-mark.ensures);
-      answer = rw e (ap Ok told.counts-are);
+      }) c.with_mark.ensures);
+      answer = rw e (ap Ok told.counts_are);
       memory =
-          rw e (c.rebuild-in.ensures
+          rw e (c.rebuild_in.ensures
           ∙ ap (λ (x : Segment). segment_rebuilt (g.T.Transform.meaning c.args.transform.now) x slip.rounding (accepted slip.kind (count_of x) c.args.bytes.now) held) s);
       format = refl;
       size =
-          ap (fits slip.format) (c.rebuild-in.ensures
+          ap (fits slip.format) (c.rebuild_in.ensures
           ∙ ap (λ (x : Segment). segment_rebuilt (g.T.Transform.meaning c.args.transform.now) x slip.rounding (accepted slip.kind (count_of x) c.args.bytes.now) held) s
           ∙ sym (ap (λ v. held_after (g.T.Transform.meaning c.args.transform.now) slip c.args.segment v held) e))
           ∙ size_delivered (g.T.Transform.meaning c.args.transform.now) slip held c.args.segment c.args.bytes.now;
