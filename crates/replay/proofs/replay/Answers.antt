@@ -18,7 +18,7 @@ pub loop-call-preserved : goal.loop-call-preserved
 loop-call-preserved g c = (
   one_done _ _ _ _ _ _ _ _ _ _ _ _ _ _ c.loop-call.invariant.0
       (ap calls_of (drop_more c.args.calls.now c.loop-call.call-index (Open 0 0 0) c.loop-call-test.true))
-      c.step-next.ensures.state c.step-next.ensures.answer c.step-next.ensures.format c.step-next.ensures.unspent c.push-reserved.ensures.items,
+      c.step-next.ensures.state c.step-next.ensures.answer c.step-next.ensures.format c.step-next.ensures.unspent c.push_reserved.ensures.items,
   search rules,
 )
 

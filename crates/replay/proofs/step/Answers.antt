@@ -14,7 +14,7 @@ returns-in-Resting-Open g c =
     let t =
     turn_from meaning c.args.stage (Resting a.reel) held (call_of c.args.call.now) (opening a.kind a.rounding a.layout) _ _ _
     a.is-0 (ap call_of a.is-1)
-    (turn_open meaning held a.reel a.kind a.rounding a.layout c.open-turn.result _ refl (c.open-turn.ensures ∙ ap open_turn c.open.ensures.answer)) in
+    (turn_open meaning held a.reel a.kind a.rounding a.layout c.open_turn.result _ refl (c.open_turn.ensures ∙ ap open_turn c.open.ensures.answer)) in
     record { state = t.state; answer = t.answer; format = t.format; unspent = t.unspent }
 
 pub returns-in-Open-Deliver : goal.returns-in-Open-Deliver
@@ -26,7 +26,7 @@ returns-in-Open-Deliver g c =
     let t =
     turn_from meaning c.args.stage (Open a.slip) held (call_of c.args.call.now) (delivering a.segment a.bytes.now) _ _ _
     a.is-0 (ap call_of a.is-1)
-    (turn_deliver meaning held a.slip _ a.segment a.bytes.now _ _ c.deliver-answer.result _ refl d.slip d.answer c.deliver-answer.ensures d.memory) in
+    (turn_deliver meaning held a.slip _ a.segment a.bytes.now _ _ c.deliver_answer.result _ refl d.slip d.answer c.deliver_answer.ensures d.memory) in
     record { state = t.state; answer = t.answer; format = t.format; unspent = t.unspent }
 
 pub returns-in-Open-Close : goal.returns-in-Open-Close
@@ -37,5 +37,5 @@ returns-in-Open-Close g c =
     let t =
     turn_from meaning c.args.stage (Open a.slip) held (call_of c.args.call.now) closing _ _ _
     a.is-0 (ap call_of a.is-1)
-    (turn_close meaning held a.slip _ c.close-turn.result _ refl (c.close-turn.ensures ∙ ap close_turn c.close.ensures.answer) c.close.ensures.memory) in
+    (turn_close meaning held a.slip _ c.close_turn.result _ refl (c.close_turn.ensures ∙ ap close_turn c.close.ensures.answer) c.close.ensures.memory) in
     record { state = t.state; answer = t.answer; format = t.format; unspent = t.unspent }

@@ -7,5 +7,5 @@ loop-down-init g c = sym (rows_none _ _)
 
 pub loop-down-preserved : goal.loop-down-preserved
 loop-down-preserved g c =
-    let step = rows_more ((g.S.Store.picture c.args.store.now).sample c.args.plane) (c.columns.result * c.side-of-side.result) c.loop-down.down in
+    let step = rows_more ((g.S.Store.picture c.args.store.now).sample c.args.plane) (c.columns.result * c.side_of-side.result) c.loop-down.down in
     search rules
