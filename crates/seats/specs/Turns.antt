@@ -1,5 +1,5 @@
 -- The calls that the lines of a script make.
-use Rattle.std.specs.Prelude.{ℕ, List, [], ◌∷◌, ◌++◌, Some, None, Option}
+use Rattle.std.specs.Prelude.{List, [], ◌∷◌, Some, None, Option}
 use Rattle.call_lines.specs.declared.line.Line.{Line}
 use Rattle.call_lines.specs.Lines.{Meaning, age, ages, blank, close, deliver, meant, new, opened, records, sample, store, transform, wrong}
 use Rattle.calls.specs.Runs.{Calling, asking_age, asking_sample, closing, delivering, opening}

@@ -77,9 +77,9 @@ fn replay_by<S: Store>(
     calls: &[Call],
     heap: Global,
 ) -> Result<(Stage, Vec<Answer>), Stage>
-    requires { fits (format_of stage) (held_in picture memory.old) ≡ true }
-    ensures size { fits (format_of (stage_in result)) (held_in picture memory.new) ≡ true }
-    ensures runs { IfOk result (λ p. Ran transform stage (held_in picture memory.old) (calls_of calls.now) p.0 (held_in picture memory.new)) }
+    requires { fits (format_of stage) (held_in S.picture memory.old) ≡ true }
+    ensures size { fits (format_of (stage_in result)) (held_in S.picture memory.new) ≡ true }
+    ensures runs { IfOk result (λ p. Ran transform stage (held_in S.picture memory.old) (calls_of calls.now) p.0 (held_in S.picture memory.new)) }
 {
     match transform {
         TransformKind::TwoPass => replay(stage, memory, &TwoPass, calls, heap),
@@ -89,9 +89,9 @@ fn replay_by<S: Store>(
 
 // Closes an open picture in a memory that has its size, and gives the marks of its segments.
 fn close_in<S: Store>(memory: &mut Memory<S>, slip: Slip) -> u32
-    requires { fits slip.format (held_in picture memory.old) ≡ true }
+    requires { fits slip.format (held_in S.picture memory.old) ≡ true }
     ensures marks { result ≡ slip.accepted }
-    ensures memory { held_in picture memory.new ≡ picture_closed slip.format slip.kind slip.layout slip.accepted (held_in picture memory.old) }
+    ensures memory { held_in S.picture memory.new ≡ picture_closed slip.format slip.kind slip.layout slip.accepted (held_in S.picture memory.old) }
 {
     match slip.close(memory) {
         Ok((_, marks)) => marks,
@@ -101,7 +101,7 @@ fn close_in<S: Store>(memory: &mut Memory<S>, slip: Slip) -> u32
 
 // The sums of the finished picture.
 fn sums_of<S: Store>(memory: &Memory<S>) -> PictureSums
-    ensures { result ≡ sums_of (held_in picture memory.now) }
+    ensures { result ≡ sums_of (held_in S.picture memory.now) }
 {
     PictureSums {
         luma: sum_plane(&memory.finished, 0),
