@@ -1,6 +1,6 @@
 // Why a call is refused. The fault of a delivery's segment is held whole.
 ghost use Rattle.std.specs.Prelude.{◌≡◌};
-ghost use Rattle.calls.specs.declared.faults.PictureFault.TheVariants.{Segment as segmentInPicture};
+ghost use Rattle.calls.specs.declared.faults.PictureFault.TheVariants.{Segment as segment_in_picture};
 ghost use Rattle.calls.specs.Faults.{picture_refusal, plainly};
 
 use records::faults::{Layer, Refusal, SegmentFault};
@@ -30,7 +30,7 @@ pub enum PictureFault {
 }
 
 impl From<SegmentFault> for PictureFault {
-    ghost from_gives = { λ x y. y ≡ segmentInPicture x };
+    ghost from_gives = { λ x y. y ≡ segment_in_picture x };
 
     fn from(value: SegmentFault) -> PictureFault {
         PictureFault::Segment(value)

@@ -2,7 +2,7 @@
 use Rattle.std.proofs.Common.{◌≡◌, ℕ, zero, suc, ◌+◌, ◌-◌, ◌/◌, ◌<◌, ◌≤◌, true, cond, List, [], ◌∷◌, length, is_ok, IfOk, Ok, Err, Result, refl, ap, add-zero, arith}
 use Rattle.records.specs.declared.faults.MacroblockFault.{MacroblockFault}
 use Rattle.records.specs.declared.faults.SegmentFault.{SegmentFault}
-use Rattle.records.specs.declared.faults.SegmentFault.TheVariants.{Macroblock as inMacroblock, Word as inSegment}
+use Rattle.records.specs.declared.faults.SegmentFault.TheVariants.{Macroblock as in_macroblock, Word as in_segment}
 use Rattle.records.specs.declared.faults.WordFault.{WordFault}
 use Rattle.records.specs.declared.types.Macroblock.{Macroblock}
 use Rattle.records.specs.declared.types.PictureKind.{PictureKind}
@@ -28,7 +28,7 @@ module _ (kind : PictureKind) (n m k : ℕ) (s : State) where
   done h = let e : n - m ≡ zero = omega arith in rw (e, add-zero k)
 
   pub stop : (f : MacroblockFault) → m < n → ◌≡◌ {A = Result (Macroblock × State) MacroblockFault} (Err f) (macroblock_from kind s m)
-      → counted k (macroblocks_from (n - m) kind s m) ≡ Err (inMacroblock f)
+      → counted k (macroblocks_from (n - m) kind s m) ≡ Err (in_macroblock f)
   unfolding macroblocks_from
   stop f h e = let i : n - m ≡ suc (n - (m + 1)) = omega arith in rw (i, ← e)
 
@@ -54,7 +54,7 @@ module _ (kind : PictureKind) (n : ℕ) (bytes : List ℕ) where
   abbrev pub Counts : Result (ℕ × State) SegmentFault → Type 0
   Counts r = counted 0 (macroblocks_from n kind (words_of bytes, 0) 0) ≡ r
 
-  pub no_words : (f : WordFault) → ◌≡◌ {A = Result (Unit {0}) WordFault} (Err f) (whole_words bytes) → answered kind n bytes ≡ Err (inSegment f)
+  pub no_words : (f : WordFault) → ◌≡◌ {A = Result (Unit {0}) WordFault} (Err f) (whole_words bytes) → answered kind n bytes ≡ Err (in_segment f)
   unfolding read
   no_words f e = rw (← e)
 

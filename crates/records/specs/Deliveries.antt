@@ -3,7 +3,7 @@ use Rattle.std.specs.Prelude.{◌≡◌, ℕ, zero, suc, ◌+◌, ◌/◌, ◌%�
 use Rattle.records.specs.declared.faults.WordFault.{WordFault}
 use Rattle.records.specs.declared.faults.WordFault.TheVariants.{ByteCount}
 use Rattle.records.specs.declared.faults.SegmentFault.{SegmentFault}
-use Rattle.records.specs.declared.faults.SegmentFault.TheVariants.{Word, Macroblock as inMacroblock, LeftOver}
+use Rattle.records.specs.declared.faults.SegmentFault.TheVariants.{Word, Macroblock as in_macroblock, LeftOver}
 use Rattle.records.specs.declared.types.PictureKind.{PictureKind}
 use Rattle.records.specs.declared.types.PictureKind.TheVariants as picture
 use Rattle.records.specs.declared.types.Macroblock.{Macroblock}
@@ -21,7 +21,7 @@ whole_words bytes = ask (length bytes % 4 == 0) ByteCount (Ok tt)
 unfoldable pub macroblocks_from : ℕ → PictureKind → State → ℕ → Result (List Macroblock × State) SegmentFault
 macroblocks_from zero kind s m = Ok ([], s)
 macroblocks_from (suc left) kind s m =
-    and_then inMacroblock (macroblock_from kind s m) (λ q. after (q.0 ∷ []) (macroblocks_from left kind q.1 (m + 1)))
+    and_then in_macroblock (macroblock_from kind s m) (λ q. after (q.0 ∷ []) (macroblocks_from left kind q.1 (m + 1)))
 
 -- no word is left after the last of so many macroblocks
 abbrev pub end_in : ℕ → List ℕ → ℕ → Result (Unit {0}) SegmentFault

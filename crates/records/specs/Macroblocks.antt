@@ -2,7 +2,7 @@
 use Rattle.std.specs.Prelude.{ℕ, zero, suc, ◌+◌, Bool, true, false, cond, ◌&&◌, List, [], ◌∷◌, ◌++◌, pos, ◌-ℤ◌, Some, None, Ok, Err, Option, Result, ◌==◌, nat_lt}
 use Rattle.records.specs.declared.faults.Place.{Place}
 use Rattle.records.specs.declared.faults.MacroblockFault.{MacroblockFault}
-use Rattle.records.specs.declared.faults.MacroblockFault.TheVariants.{Word, Block as in_block, Head as badHead}
+use Rattle.records.specs.declared.faults.MacroblockFault.TheVariants.{Word, Block as in_block, Head as bad_head}
 use Rattle.records.specs.declared.types.PictureKind.{PictureKind}
 use Rattle.records.specs.declared.types.PictureKind.TheVariants as picture
 use Rattle.records.specs.declared.types.WordKind.TheVariants as due
@@ -32,9 +32,9 @@ sound_head picture.Inter coding.Intra quantizer pattern = nat_lt 0 quantizer
 
 -- a head, where its type is known
 abbrev pub head_with : PictureKind → Place → Option MacroblockType → ℕ → ℕ → Result Head MacroblockFault
-head_with kind p None quantizer pattern = Err (badHead p)
+head_with kind p None quantizer pattern = Err (bad_head p)
 head_with kind p (Some t) quantizer pattern =
-    ask (sound_head kind t quantizer pattern) (badHead p) (Ok (record { coding = t; quantizer = quantizer; pattern = pattern }))
+    ask (sound_head kind t quantizer pattern) (bad_head p) (Ok (record { coding = t; quantizer = quantizer; pattern = pattern }))
 
 -- the head in a word: bits 27 to 26 are its type, 25 to 21 its quantizer, 20 to 15 its pattern
 abbrev pub head_of : PictureKind → Place → ℕ → Result Head MacroblockFault

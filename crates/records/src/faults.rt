@@ -1,8 +1,8 @@
 // Why a delivery is refused. Each layer's fault holds the fault of the layer below it whole.
 ghost use Rattle.std.specs.Prelude.{◌≡◌};
-ghost use Rattle.records.specs.declared.faults.BlockFault.TheVariants.{Word as wordInBlock};
-ghost use Rattle.records.specs.declared.faults.MacroblockFault.TheVariants.{Block as blockInMacroblock, Word as wordInMacroblock};
-ghost use Rattle.records.specs.declared.faults.SegmentFault.TheVariants.{Macroblock as macroblockInSegment, Word as wordInSegment};
+ghost use Rattle.records.specs.declared.faults.BlockFault.TheVariants.{Word as word_in_block};
+ghost use Rattle.records.specs.declared.faults.MacroblockFault.TheVariants.{Block as block_in_macroblock, Word as word_in_macroblock};
+ghost use Rattle.records.specs.declared.faults.SegmentFault.TheVariants.{Macroblock as macroblock_in_segment, Word as word_in_segment};
 ghost use Rattle.records.specs.Faults.{block_refusal, macroblock_refusal, placed, segment_refusal, word_refusal};
 
 // Where a fault lies: the index of the word concerned, the macroblocks read whole before it, and the block due, or 6 when none is.
@@ -48,7 +48,7 @@ pub enum SegmentFault {
 }
 
 impl From<WordFault> for BlockFault {
-    ghost from_gives = { λ x y. y ≡ wordInBlock x };
+    ghost from_gives = { λ x y. y ≡ word_in_block x };
 
     fn from(value: WordFault) -> BlockFault {
         BlockFault::Word(value)
@@ -56,7 +56,7 @@ impl From<WordFault> for BlockFault {
 }
 
 impl From<WordFault> for MacroblockFault {
-    ghost from_gives = { λ x y. y ≡ wordInMacroblock x };
+    ghost from_gives = { λ x y. y ≡ word_in_macroblock x };
 
     fn from(value: WordFault) -> MacroblockFault {
         MacroblockFault::Word(value)
@@ -64,7 +64,7 @@ impl From<WordFault> for MacroblockFault {
 }
 
 impl From<BlockFault> for MacroblockFault {
-    ghost from_gives = { λ x y. y ≡ blockInMacroblock x };
+    ghost from_gives = { λ x y. y ≡ block_in_macroblock x };
 
     fn from(value: BlockFault) -> MacroblockFault {
         MacroblockFault::Block(value)
@@ -72,7 +72,7 @@ impl From<BlockFault> for MacroblockFault {
 }
 
 impl From<WordFault> for SegmentFault {
-    ghost from_gives = { λ x y. y ≡ wordInSegment x };
+    ghost from_gives = { λ x y. y ≡ word_in_segment x };
 
     fn from(value: WordFault) -> SegmentFault {
         SegmentFault::Word(value)
@@ -80,7 +80,7 @@ impl From<WordFault> for SegmentFault {
 }
 
 impl From<MacroblockFault> for SegmentFault {
-    ghost from_gives = { λ x y. y ≡ macroblockInSegment x };
+    ghost from_gives = { λ x y. y ≡ macroblock_in_segment x };
 
     fn from(value: MacroblockFault) -> SegmentFault {
         SegmentFault::Macroblock(value)

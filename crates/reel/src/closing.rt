@@ -2,7 +2,7 @@
 ghost use Rattle.std.specs.Prelude.{◌≡◌, ℕ, ◌<◌, true, ◌&&◌, length, if◌then◌else◌, MatchResult};
 ghost use Rattle.pictures.specs.Formats.{columns_of, rows_of};
 ghost use Rattle.pictures.specs.Pictures.{covers, painted};
-ghost use Rattle.calls.specs.Effects.{fill_age, fill_sample, filled_ages, filled_picture, missing as rowMissing, picture_closed};
+ghost use Rattle.calls.specs.Effects.{fill_age, fill_sample, filled_ages, filled_picture, missing as row_missing, picture_closed};
 ghost use Rattle.calls.specs.Held.{cells_of, fits};
 ghost use Rattle.calls.specs.Questions.{judge_closing};
 ghost use Rattle.reel.specs.Calls.{closed, held_closed};
@@ -87,7 +87,7 @@ fn closing_age(missing: bool, kind: PictureKind, finished: u8, working: u8) -> u
 // Whether a macroblock row lies in a segment that was not accepted.
 fn is_missing(format: Format, layout: u32, accepted: u32, row: u16) -> bool
     requires { row < rows_of format }
-    ensures { result ≡ rowMissing layout accepted row }
+    ensures { result ≡ row_missing layout accepted row }
 {
     !has_mark(accepted, format.segment_of_row(layout, row))
 }
