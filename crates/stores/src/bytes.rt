@@ -3,7 +3,7 @@ ghost use Rattle.pictures.specs.Formats.{numbered};
 ghost use Rattle.pictures.specs.Pictures.{inside};
 ghost use Rattle.stores.specs.Room.{holds};
 ghost use Rattle.stores.specs.Bytes.{RunAt, byte_address, bytes_made, bytes_seen};
-ghost use Rattle.std.proofs.Common.{rules, arith};
+ghost use Rattle.std.proofs.Common.{rules};
 
 use crate::room::{has_room, size_in};
 use pictures::{Store, is_inside, side_of, start_of};
@@ -82,9 +82,9 @@ impl ByteStore {
 impl Store for ByteStore {
     ghost picture = { λ s. bytes_seen s.columns s.rows s.memory.items };
 
-    ghost outside = { first_of (Prim.search rules, Prim.grind (arith, Self.row.coded.inj)) };
+    ghost outside = { Prim.search rules };
 
-    ghost byte = { first_of (Prim.search rules, Prim.grind (arith, Self.row.coded.inj)) };
+    ghost byte = { Prim.search rules };
 
     fn columns(&self) -> u16 {
         self.columns

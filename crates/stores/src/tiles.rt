@@ -3,7 +3,7 @@ ghost use Rattle.pictures.specs.Formats.{numbered};
 ghost use Rattle.pictures.specs.Pictures.{inside};
 ghost use Rattle.stores.specs.Room.{holds};
 ghost use Rattle.stores.specs.Tiles.{WordAt, tile_address, tiles_made, tiles_seen};
-ghost use Rattle.std.proofs.Common.{rules, arith};
+ghost use Rattle.std.proofs.Common.{rules};
 
 use crate::room::{has_room, size_in};
 use pictures::{Store, is_inside, side_of, start_of};
@@ -86,9 +86,9 @@ impl TileStore {
 impl Store for TileStore {
     ghost picture = { λ s. tiles_seen s.columns s.rows s.memory.items };
 
-    ghost outside = { first_of (Prim.search rules, Prim.grind (arith, Self.row.coded.inj)) };
+    ghost outside = { Prim.search rules };
 
-    ghost byte = { first_of (Prim.search rules, Prim.grind (arith, Self.row.coded.inj)) };
+    ghost byte = { Prim.search rules };
 
     fn columns(&self) -> u16 {
         self.columns
