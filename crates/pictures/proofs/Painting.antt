@@ -1,6 +1,6 @@
 -- A sweep paints places of a picture part by part: how what is painted grows.
-use Rattle.std.proofs.Common.{◌≡◌, ℕ, ◌+◌, ◌*◌, ◌<◌, ◌≤◌, max, Bool, true, false, cond, ◌&&◌, ◌||◌, eqb, ltb, leb, unwrap_or, sym, refl, ap, ◌∙◌, ⊎_elim, zero-mul, arith}
-use Rattle.std.proofs.lemmas.Bool.{cases_eq, eq-eqb, ne_eqb}
+use Rattle.std.proofs.Common.{◌≡◌, ℕ, ◌+◌, ◌*◌, ◌≤◌, max, Bool, true, false, ◌&&◌, ◌||◌, eqb, ltb, leb, unwrap_or, sym, refl, ap, ◌∙◌, ⊎_elim, zero-mul, arith}
+use Rattle.std.proofs.lemmas.Bool.{cases_eq, ne_eqb}
 use Rattle.std.proofs.lemmas.Bool.Decides.{nat_tests}
 use Rattle.pictures.specs.declared.layouts.Segment.{Segment}
 use Rattle.pictures.specs.Pictures.{Picture, has, inside, here, span, covers, painted, written, reading, side}

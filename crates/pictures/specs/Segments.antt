@@ -1,7 +1,7 @@
 -- Layouts: how a picture is cut into segments. A layout is a number whose bit r is set when a segment begins at macroblock row r.
 -- Segments are numbered from 0 downwards and span all columns. The first begins at row 0 whatever bit 0 says, and the bits at and above
 -- the row count begin nothing; a layout in which these bits are as they should be is sound.
-use Rattle.std.specs.Prelude.{◌≡◌, ℕ, zero, suc, ◌-◌, ◌/◌, ◌%◌, ◌^◌, ◌<◌, ◌≤◌, Bool, true, false, cond, ◌&&◌, ◌==◌, nat_le, nat_lt}
+use Rattle.std.specs.Prelude.{◌≡◌, ℕ, zero, suc, ◌-◌, ◌/◌, ◌%◌, ◌^◌, ◌<◌, ◌≤◌, Bool, cond, ◌&&◌, ◌==◌, nat_le, nat_lt}
 use Rattle.pictures.specs.declared.formats.Format.{Format}
 use Rattle.pictures.specs.declared.layouts.Segment.{Segment}
 use Rattle.pictures.specs.Formats.{columns_of, rows_of}

@@ -1,4 +1,4 @@
-use Rattle.std.proofs.Common.{◌≡◌, refl, arith}
+use Rattle.std.proofs.Common.{refl, arith}
 use Rattle.pictures.specs.Segments.{rows_before}
 use Rattle.pictures.proofs.Rows.{rows_more}
 use Rattle.pictures.proofs.layouts.rows_before.Goals as goal

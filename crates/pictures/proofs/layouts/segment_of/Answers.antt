@@ -1,4 +1,4 @@
-use Rattle.std.proofs.Common.{◌≡◌, ◌/◌, ◌%◌, ◌≤◌, refl, arith}
+use Rattle.std.proofs.Common.{refl, arith}
 use Rattle.pictures.specs.Segments.{segment_of}
 use Rattle.pictures.proofs.Rows.{segment_more}
 use Rattle.pictures.proofs.layouts.segment_of.Goals as goal

@@ -1,4 +1,4 @@
-use Rattle.std.proofs.Common.{◌≡◌, ◌∙◌}
+use Rattle.std.proofs.Common.{◌∙◌}
 use Rattle.pictures.proofs.Painting.{alike, whole_covered, repainted}
 use Rattle.pictures.proofs.sweeps.copy_picture.Goals as goal
 

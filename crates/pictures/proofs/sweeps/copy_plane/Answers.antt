@@ -1,5 +1,5 @@
-use Rattle.std.proofs.Common.{◌≡◌, ◌+◌, ◌*◌, ◌≤◌, max, sym, refl, ap, ◌∙◌, arith}
-use Rattle.pictures.specs.Pictures.{painted, side, span}
+use Rattle.std.proofs.Common.{◌*◌, ap, ◌∙◌, arith}
+use Rattle.pictures.specs.Pictures.{painted, span}
 use Rattle.pictures.proofs.Painting.{none, both, alike, block, block_none, block_more, block_all}
 use Rattle.pictures.proofs.sweeps.copy_plane.Goals as goal
 

@@ -1,4 +1,4 @@
-use Rattle.std.proofs.Common.{◌≡◌, ◌≤◌, ◌&&◌, eqb, ltb, ◌∙◌, arith}
+use Rattle.std.proofs.Common.{◌&&◌, eqb, ltb, ◌∙◌, arith}
 use Rattle.pictures.specs.Pictures.{covers}
 use Rattle.pictures.proofs.Painting.{none, both, alike, planes_none, planes_more, planes_all}
 use Rattle.pictures.proofs.sweeps.fill_segment.Goals as goal

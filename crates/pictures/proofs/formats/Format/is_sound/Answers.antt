@@ -1,8 +1,8 @@
-use Rattle.std.proofs.Common.{◌≡◌, ◌%◌, ◌^◌, Bool, true, false, ◌&&◌, eqb, ltb, sym, ap, ◌∙◌, arith}
+use Rattle.std.proofs.Common.{◌≡◌, ◌%◌, ◌^◌, false, ◌&&◌, ltb, sym, ap, ◌∙◌, arith}
 use Rattle.std.proofs.lemmas.Bool.{eq-eqb, ne_eqb}
 use Rattle.std.proofs.lemmas.Bool.Decides.{Decides-at}
 use Rattle.pictures.specs.Formats.{rows_of}
-use Rattle.pictures.specs.Segments.{has_bit, sound}
+use Rattle.pictures.specs.Segments.{sound}
 use Rattle.pictures.proofs.Rows.{odd_bit, sound_bits}
 use Rattle.pictures.proofs.formats.Format.is_sound.Goals as goal
 

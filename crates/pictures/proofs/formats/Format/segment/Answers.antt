@@ -1,5 +1,4 @@
-use Rattle.std.proofs.Common.{◌≡◌, suc, ◌+◌, ap, ◌∙◌, add-one, arith}
-use Rattle.pictures.specs.Formats.{columns_of, rows_of}
+use Rattle.std.proofs.Common.{suc, ap, ◌∙◌, add-one, arith}
 use Rattle.pictures.specs.Segments.{rows_before, first_row}
 use Rattle.pictures.proofs.Rows.{segmented}
 use Rattle.pictures.proofs.formats.Format.segment.Goals as goal

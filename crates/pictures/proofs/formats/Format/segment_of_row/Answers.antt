@@ -1,4 +1,3 @@
-use Rattle.std.proofs.Common.{◌≡◌, sym, arith}
 use Rattle.pictures.proofs.Rows.{segmented}
 use Rattle.pictures.proofs.formats.Format.segment_of_row.Goals as goal
 

@@ -1,4 +1,4 @@
-use Rattle.std.proofs.Common.{◌≡◌, suc, ◌+◌, ◌-◌, refl, ap, ◌∙◌, add-one, arith}
+use Rattle.std.proofs.Common.{suc, ◌-◌, ap, ◌∙◌, add-one, arith}
 use Rattle.pictures.specs.Segments.{segment_of, segment_count}
 use Rattle.pictures.proofs.Rows.{segmented}
 use Rattle.pictures.proofs.formats.Format.segments.Goals as goal

@@ -1,4 +1,4 @@
-use Rattle.std.proofs.Common.{◌≡◌, arith}
+use Rattle.std.proofs.Common.{arith}
 use Rattle.pictures.proofs.Painting.{span_one}
 use Rattle.pictures.proofs.planes.Store.copy_run.Goals as goal
 

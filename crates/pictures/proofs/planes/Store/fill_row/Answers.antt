@@ -1,4 +1,4 @@
-use Rattle.std.proofs.Common.{◌≡◌, ◌<◌, ◌≤◌, max, ◌∙◌, arith}
+use Rattle.std.proofs.Common.{◌<◌, ◌≤◌, ◌∙◌, arith}
 use Rattle.pictures.specs.Pictures.{span}
 use Rattle.pictures.proofs.Painting.{none, both, alike, span_none, span_join, span_all}
 use Rattle.pictures.proofs.planes.Store.fill_row.Goals as goal

@@ -1,4 +1,4 @@
-use Rattle.std.proofs.Common.{◌≡◌, refl, arith}
+use Rattle.std.proofs.Common.{refl, arith}
 use Rattle.pictures.proofs.Painting.{span_one}
 use Rattle.pictures.proofs.planes.Store.fill_run.Goals as goal
 
