@@ -1,5 +1,5 @@
 -- A list of calls, turn after turn.
-use Rattle.std.proofs.Common.{◌≡◌, ℕ, false, List, [], ◌∷◌, ◌++◌, ℤ, sym, refl, ap, ◌∙◌, subst, append_assoc, append-nil}
+use Rattle.std.proofs.Common.{◌≡◌, ℕ, false, List, [], ◌∷◌, ◌++◌, ℤ, sym, refl, ap, ◌∙◌, append_assoc, append-nil}
 use Rattle.calls.specs.declared.answers.Answer.{Answer}
 use Rattle.calls.specs.Held.{Held, fits}
 use Rattle.calls.specs.Runs.{Calling, Setting, State, all_fit, replies, reply, run, setting_of, step}

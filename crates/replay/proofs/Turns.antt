@@ -1,5 +1,5 @@
 -- What a call on a stage gives is what a step of a run says.
-use Rattle.std.proofs.Common.{◌≡◌, ℕ, false, List, ℤ, Ok, Err, Result, sym, refl, ap, ◌∙◌, subst}
+use Rattle.std.proofs.Common.{◌≡◌, ℕ, false, List, ℤ, Ok, Err, Result, sym, refl, subst}
 use Rattle.records.specs.declared.types.Delivered.{Delivered}
 use Rattle.records.specs.declared.types.Macroblock.{Macroblock}
 use Rattle.calls.specs.declared.answers.Answer.{Answer}

@@ -1,5 +1,5 @@
 -- Sums, a byte at a time.
-use Rattle.std.proofs.Common.{◌≡◌, ℕ, suc, ◌+◌, refl, ap, ◌∙◌, add-one}
+use Rattle.std.proofs.Common.{◌≡◌, ℕ, ◌+◌, refl, add-one}
 use Rattle.transcripts.specs.Sums.{row_sum, rows_sum, sum_more}
 
 pub row_none : (sample : ℕ → ℕ → ℕ) (down sum : ℕ) → row_sum sample down 0 sum ≡ sum

@@ -1,4 +1,4 @@
-use Rattle.std.proofs.Common.{◌≡◌, ◌*◌, sym, rules}
+use Rattle.std.proofs.Common.{◌*◌, sym, rules}
 use Rattle.transcripts.proofs.Summed.{rows_more, rows_none}
 use Rattle.transcripts.proofs.sums.sum_plane.Goals as goal
 

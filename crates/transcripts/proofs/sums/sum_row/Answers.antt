@@ -1,4 +1,4 @@
-use Rattle.std.proofs.Common.{◌≡◌, sym, rules}
+use Rattle.std.proofs.Common.{sym, rules}
 use Rattle.transcripts.proofs.Summed.{row_more, row_none}
 use Rattle.transcripts.proofs.sums.sum_row.Goals as goal
 
