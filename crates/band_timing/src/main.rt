@@ -50,7 +50,8 @@ fn fill_often<S: Store>(store: &mut S, rounds: u32)
 
 // Copies the picture to and fro; what the first store held is then in both.
 fn copy_often<S: Store>(one: &mut S, two: &mut S, rounds: u32)
-    ensures { (SameSize (S.picture one.new) (S.picture one.old)) × (SameSize (S.picture two.new) (S.picture two.old)) }
+    ensures one { SameSize (S.picture one.new) (S.picture one.old) }
+    ensures two { SameSize (S.picture two.new) (S.picture two.old) }
 {
     for _ in 0..rounds {
         copy_picture(one, two);
@@ -60,23 +61,29 @@ fn copy_often<S: Store>(one: &mut S, two: &mut S, rounds: u32)
 
 // A sum over the samples of plane 0, in which their order counts.
 fn sum<S: Store>(store: &S) -> u32 {
-    let mut sum = 0u32;
-    for down in 0..288 {
-        for across in 0..352 {
-            sum = sum
-                .wrapping_mul(31)
-                .wrapping_add(store.sample(0, across, down) as u32);
-        }
-    }
-    sum
+    (0..288).fold(0u32, |above, down| {
+        (0..352).fold(above, |sum, across| {
+            sum.wrapping_mul(31)
+                .wrapping_add(u32::from(store.sample(0, across, down)))
+        })
+    })
 }
 
 // The rounds asked for on the command line.
 fn rounds(rt: &HostRuntime) -> anyhow::Result<Option<u32>> {
-    match env::args(rt)?.nth(1) {
-        Some(word) => Ok(Some(word.as_str().parse::<u32>()?)),
-        None => Ok(None),
-    }
+    let Some(word) = env::args(rt)?.nth(1) else {
+        return Ok(None);
+    };
+    Ok(Some(word.as_str().parse::<u32>()?))
+}
+
+// How long some work takes, in microseconds.
+fn timed<F: FnOnce()>(rt: &HostRuntime, work: F) -> anyhow::Result<u128>
+    requires { F.IsAlwaysCallable work }
+{
+    let start = Instant::now(rt)?;
+    work();
+    Ok(start.elapsed(rt)?.as_micros())
 }
 
 fn run<S: Store>(
@@ -87,32 +94,25 @@ fn run<S: Store>(
     asked: Option<u32>,
 ) -> anyhow::Result<()> {
     let rounds = asked.unwrap_or(1);
-    let start = Instant::now(rt)?;
-    fill_often(one, rounds);
-    let filled = start.elapsed(rt)?.as_micros();
-    let start = Instant::now(rt)?;
-    draw_often(one, rounds);
-    let drawn = start.elapsed(rt)?.as_micros();
-    let start = Instant::now(rt)?;
-    copy_often(one, two, rounds);
-    let copied = start.elapsed(rt)?.as_micros();
+    let filled = timed(rt, || fill_often(one, rounds))?;
+    let drawn = timed(rt, || draw_often(one, rounds))?;
+    let copied = timed(rt, || copy_often(one, two, rounds))?;
     if asked.is_some() {
         eprintln!(rt;
             "{name}, {rounds} rounds, us: fill {filled}, write plane 0 by samples {drawn}, copy to and fro {copied}"
         )?;
     }
-    let total = sum(two);
-    println!(rt; "{name} {total}")?;
+    println!(rt; "{name} {}", sum(two))?;
     Ok(())
 }
 
 fn main(rt: HostRuntime) -> anyhow::Result<()> {
     let heap = rt.alloc();
     let asked = rounds(&rt)?;
-    let mut a = ByteStore::new(3, vec![in heap; 0; 152064]?);
-    let mut b = ByteStore::new(3, vec![in heap; 0; 152064]?);
+    let mut a = ByteStore::filled(heap, Format::Cif, 0)?;
+    let mut b = ByteStore::filled(heap, Format::Cif, 0)?;
     run(&rt, "bytes", &mut a, &mut b, asked)?;
-    let mut c = TileStore::new(3, vec![in heap; 0; 38016]?);
-    let mut d = TileStore::new(3, vec![in heap; 0; 38016]?);
+    let mut c = TileStore::filled(heap, Format::Cif, 0)?;
+    let mut d = TileStore::filled(heap, Format::Cif, 0)?;
     run(&rt, "tiles", &mut c, &mut d, asked)
 }

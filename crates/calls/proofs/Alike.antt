@@ -13,7 +13,7 @@ use Rattle.samples.specs.Ages.{next_age, older}
 use Rattle.pictures.specs.declared.formats.Format.{Format}
 use Rattle.pictures.specs.Segments.{has_bit, segment_at, segment_of}
 use Rattle.rebuild.specs.Rebuilt.{count_of}
-use Rattle.rebuild.proofs.Cells.{all_there}
+use Rattle.records.proofs.Wholes.{all_there}
 use Rattle.calls.specs.declared.faults.PictureFault.{PictureFault}
 use Rattle.calls.specs.Questions.{in_grid, judge_delivery}
 use Rattle.calls.specs.Effects.{age_at, fill_age, fill_sample, segment_rebuilt}

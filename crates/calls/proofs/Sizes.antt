@@ -14,7 +14,8 @@ use Rattle.pictures.specs.Formats.{columns_of, rows_of}
 use Rattle.pictures.specs.Segments.{first_row, segment_at}
 use Rattle.pictures.proofs.Rows.{segmented}
 use Rattle.rebuild.specs.Rebuilt.{count_of, first_cell, width_of}
-use Rattle.rebuild.proofs.Cells.{all_there, rows_join}
+use Rattle.records.proofs.Wholes.{all_there}
+use Rattle.rebuild.proofs.Cells.{rows_join}
 use Rattle.calls.specs.declared.faults.PictureFault.{PictureFault}
 use Rattle.calls.specs.Held.{Held, cells_of, fits, fits_store, fits_table}
 use Rattle.calls.specs.Questions.{judge_closing, judge_delivery, judge_opening}

@@ -1,8 +1,9 @@
 // Why a call is refused. The fault of a delivery's segment is held whole.
 ghost use Rattle.std.specs.Prelude.{◌≡◌};
-ghost use Rattle.calls.specs.declared.faults.PictureFault.TheVariants.{Segment as segment_in_picture};
+ghost use Rattle.calls.specs.declared.faults.PictureFault.TheVariants.{Format as format_in_picture, Segment as segment_in_picture};
 ghost use Rattle.calls.specs.Faults.{picture_refusal, plainly};
 
+use pictures::UnknownFormat;
 use records::faults::{Layer, Refusal, SegmentFault};
 
 // The picture layer's faults, and what a delivery's bytes are refused for.
@@ -34,6 +35,14 @@ impl From<SegmentFault> for PictureFault {
 
     fn from(value: SegmentFault) -> PictureFault {
         PictureFault::Segment(value)
+    }
+}
+
+impl From<UnknownFormat> for PictureFault {
+    ghost from_gives = { λ _ y. y ≡ format_in_picture };
+
+    fn from(_value: UnknownFormat) -> PictureFault {
+        PictureFault::Format
     }
 }
 

@@ -8,38 +8,17 @@ ghost use Rattle.std.specs.Str.{bytes_eq};
 use anyhow::anyhow;
 use call_lines::line::StoreKind;
 use player::play;
-use script::fields::{is_text, split_line};
+use script::fields::{is_text, lines_of};
 use std::str::from_utf8;
 use std::{env, fs};
 
-// How many lines a text has.
-fn count_lines(text: &[u8]) -> usize {
-    let mut rest = text;
-    let mut lines = 0usize;
-    while !rest.is_empty() {
-        let (_, after) = split_line(rest);
-        lines = lines.saturating_add(1);
-        rest = after;
-    }
-    lines
-}
-
 // The number of the first line in which two texts differ, or of the last line of one.
 fn find_difference(answers: &[u8], expected: &[u8]) -> usize {
-    let mut answers = answers;
-    let mut expected = expected;
-    let mut number = 1usize;
-    while !answers.is_empty() && !expected.is_empty() {
-        let (answer, answers_after) = split_line(answers);
-        let (due, expected_after) = split_line(expected);
-        if !is_text(answer, due) {
-            break;
-        }
-        number = number.saturating_add(1);
-        answers = answers_after;
-        expected = expected_after;
-    }
-    number
+    lines_of(answers)
+        .zip(lines_of(expected))
+        .take_while(|(answer, due)| answer == due)
+        .count()
+        .saturating_add(1)
 }
 
 // How many lines answers have that are as expected, byte for byte, or the number of the first line that is not.
@@ -47,7 +26,7 @@ fn compare(answers: &[u8], expected: &[u8]) -> Result<usize, usize>
     ensures { is_ok result ≡ bytes_eq answers.now expected.now }
 {
     if is_text(answers, expected) {
-        Ok(count_lines(expected))
+        Ok(lines_of(expected).count())
     } else {
         Err(find_difference(answers, expected))
     }
@@ -55,21 +34,12 @@ fn compare(answers: &[u8], expected: &[u8]) -> Result<usize, usize>
 
 // A line of a text by its number, from 1 on; empty after the last.
 fn line_at(text: &[u8], number: usize) -> &[u8] {
-    let mut rest = text;
-    for _ in 1..number {
-        let (_, after) = split_line(rest);
-        rest = after;
-    }
-    let (line, _) = split_line(rest);
-    line
+    lines_of(text).nth(number.saturating_sub(1)).unwrap_or(b"")
 }
 
 // A line as text, where it is such.
 fn shown(line: &[u8]) -> &str {
-    match from_utf8(line) {
-        Ok(text) => text,
-        Err(_) => "no text",
-    }
+    from_utf8(line).unwrap_or("no text")
 }
 
 // Plays a case in one store.

@@ -2,11 +2,29 @@
 ghost use Rattle.std.specs.Prelude.{◌≡◌};
 ghost use Rattle.conformance.specs.Draws.{drawn, stepped, stepped_by};
 
+use std::fmt;
+
 // Numbers from -low to high.
 #[derive(Clone, Copy)]
 pub struct Range {
     pub low: u16,
     pub high: u16,
+}
+
+// What the blocks of one measurement are drawn from: a range, and whether every sign is turned.
+#[derive(Clone, Copy)]
+pub struct Series {
+    pub range: Range,
+    pub turned: bool,
+}
+
+impl fmt::Display for Series {
+    fn fmt<W: fmt::Write>(&self, f: &mut fmt::Formatter<W>) -> fmt::Result {
+        let sign = if self.turned { '-' } else { '+' };
+        let low = self.range.low;
+        let high = self.range.high;
+        write!(f, "{sign} -{low}..{high}")
+    }
 }
 
 #[derive(Drop)]
@@ -31,14 +49,14 @@ impl Generator {
         number(self.state, range)
     }
 
-    // A block by rows, or with every sign turned. It takes 64 numbers from the generator, turned or not.
-    pub fn block(&mut self, range: Range, turned: bool) -> [f64; 64]
+    // A block by rows, with every sign turned where the series asks it. It takes 64 numbers from the generator, turned or not.
+    pub fn block(&mut self, series: Series) -> [f64; 64]
         ensures { self.new.state ≡ stepped_by 64 self.old.state }
     {
-        let sign = if turned { -1.0 } else { 1.0 };
+        let sign = if series.turned { -1.0 } else { 1.0 };
         let mut samples = [0.0; 64];
-        for p in 0..64 {
-            samples[p] = sign * f64::from(self.draw(range));
+        for sample in &mut samples {
+            *sample = sign * f64::from(self.draw(series.range));
         }
         samples
     }

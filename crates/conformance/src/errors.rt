@@ -3,7 +3,7 @@ ghost use Rattle.std.specs.Prelude.{◌≡◌, ◌+◌, ◌-◌, ◌^◌, ◌<�
 ghost use Rattle.conformance.specs.Errors.{allowed, excess, joined, no_totals, noted};
 
 // The errors at one place of a block.
-#[derive(Clone, Copy)]
+#[derive(Clone, Copy, Default)]
 pub struct Errors {
     pub peak: u32,
     pub over: u32,
@@ -12,13 +12,6 @@ pub struct Errors {
 }
 
 impl Errors {
-    pub const NONE: Errors = Errors {
-        peak: 0,
-        over: 0,
-        under: 0,
-        squares: 0,
-    };
-
     // With one more result, of which the reference wants another.
     pub fn note(self, got: i16, want: i16) -> Errors
         ensures { result ≡ noted self got want }
@@ -48,7 +41,7 @@ fn excess_of(a: i16, b: i16) -> u32
 }
 
 // The worst place's figures, and the sums over all places.
-#[derive(Clone, Copy)]
+#[derive(Clone, Copy, Default)]
 pub struct Totals {
     pub peak: u32,
     pub square: u32,
@@ -59,15 +52,6 @@ pub struct Totals {
 }
 
 impl Totals {
-    pub const NONE: Totals = Totals {
-        peak: 0,
-        square: 0,
-        squares: 0,
-        mean: 0,
-        over: 0,
-        under: 0,
-    };
-
     // With one more place.
     pub fn join(self, here: Errors) -> Totals
         ensures { result ≡ joined self here }
@@ -93,19 +77,11 @@ impl Totals {
     pub fn allowed(self) -> bool
         ensures { result ≡ allowed self }
     {
-        if self.peak > 1 {
-            return false;
-        }
-        if self.square > 600 {
-            return false;
-        }
-        if self.squares > 12800 {
-            return false;
-        }
-        if self.mean > 150 {
-            return false;
-        }
-        self.means() <= 960
+        self.peak <= 1
+            && self.square <= 600
+            && self.squares <= 12800
+            && self.mean <= 150
+            && self.means() <= 960
     }
 }
 
@@ -113,9 +89,7 @@ impl Totals {
 pub fn totals_of(places: &[Errors; 64]) -> Totals
     ensures { result ≡ fold joined no_totals places.now }
 {
-    let mut totals = Totals::NONE;
-    for here in places {
-        totals = totals.join(*here);
-    }
-    totals
+    places
+        .iter()
+        .fold(Totals::default(), |totals, here| totals.join(*here))
 }

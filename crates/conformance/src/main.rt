@@ -8,7 +8,7 @@ mod errors;
 mod reference;
 
 use anyhow::anyhow;
-use draws::{Generator, Range};
+use draws::{Generator, Range, Series};
 use errors::{Errors, Totals, totals_of};
 use reference::Reference;
 use transform::{Direct, Transform, TwoPass};
@@ -26,21 +26,16 @@ const RANGES: [Range; 3] = [
 ];
 
 fn note_block(errors: &mut [Errors; 64], got: &[i16; 64], want: &[i16; 64]) {
-    for p in 0..64 {
-        errors[p] = errors[p].note(got[p], want[p]);
+    for ((here, got), want) in errors.iter_mut().zip(got).zip(want) {
+        *here = here.note(*got, *want);
     }
 }
 
-fn measure<X: Transform>(
-    transform: &X,
-    reference: &Reference,
-    range: Range,
-    turned: bool,
-) -> Totals {
+fn measure<X: Transform>(transform: &X, reference: &Reference, series: Series) -> Totals {
     let mut generator = Generator::new();
-    let mut errors = [Errors::NONE; 64];
+    let mut errors = [Errors::default(); 64];
     for _ in 0..10_000 {
-        let coefficients = reference.forward(&generator.block(range, turned));
+        let coefficients = reference.forward(&generator.block(series));
         note_block(
             &mut errors,
             &transform.inverse(&coefficients),
@@ -55,17 +50,14 @@ fn keeps_zeros<X: Transform>(transform: &X) -> bool {
     transform.inverse(&[0; 64]) == [0; 64]
 }
 
-fn print_totals(rt: &impl Print, range: Range, turned: bool, m: Totals) -> anyhow::Result<()> {
-    let low = range.low;
-    let high = range.high;
-    let sign = if turned { '-' } else { '+' };
+fn print_totals(rt: &impl Print, series: Series, m: Totals) -> anyhow::Result<()> {
     let square = f64::from(m.square) / 10_000.0;
     let mean = f64::from(m.mean) / 10_000.0;
     let squares = std::num::nearest_u64_to_f64(m.squares) / 640_000.0;
     let means = std::num::nearest_u64_to_f64(m.means()) / 640_000.0;
     let peak = m.peak;
     println!(rt;
-        "  {sign} -{low}..{high}: peak {peak} (1), mean square {square:.4} (0.06), over all {squares:.6} (0.02), mean {mean:.4} (0.015), over all {means:.6} (0.0015)"
+        "  {series}: peak {peak} (1), mean square {square:.4} (0.06), over all {squares:.6} (0.02), mean {mean:.4} (0.015), over all {means:.6} (0.0015)"
     )?;
     Ok(())
 }
@@ -81,9 +73,10 @@ fn accurate<X: Transform>(
     let mut good = keeps_zeros(transform);
     for range in RANGES {
         for turned in [false, true] {
-            let totals = measure(transform, reference, range, turned);
-            print_totals(rt, range, turned, totals)?;
-            good = good && totals.allowed();
+            let series = Series { range, turned };
+            let totals = measure(transform, reference, series);
+            print_totals(rt, series, totals)?;
+            good &= totals.allowed();
         }
     }
     Ok(good)

@@ -1,6 +1,7 @@
 // The forward and the inverse transform in floating point, by their formula.
 ghost use Rattle.std.specs.Prelude.{ℕ, ◌<◌, pos, negsuc, ◌≤ℤ◌, slice_index_or};
 
+use std::array;
 use std::num::saturating_f64_to_i16;
 
 // cos(mπ/16) for m from 0 to 8.
@@ -45,72 +46,57 @@ fn rounded(x: f64, low: i16, high: i16) -> i16
     nearest.clamp(low, high)
 }
 
-fn rounded_block(x: &[f64; 64], low: i16, high: i16) -> [i16; 64]
+fn rounded_block(x: [f64; 64], low: i16, high: i16) -> [i16; 64]
     requires { low ≤ℤ high }
     ensures { (p : ℕ) → p < 64 → (low ≤ℤ slice_index_or result p (pos 0)) × (slice_index_or result p (pos 0) ≤ℤ high) }
 {
-    let mut out = [0; 64];
-    for p in 0..64 {
-        out[p] = rounded(x[p], low, high);
-    }
-    out
+    x.map(|x| rounded(x, low, high))
+}
+
+// The sum of the products of two rows.
+fn product(a: &[f64], b: &[f64]) -> f64 {
+    a.iter().zip(b).map(|(a, b)| *a * *b).sum()
+}
+
+fn row(x: &[f64; 64], n: usize) -> &[f64]
+    requires { n < 8 }
+{
+    &x[8 * n..8 * n + 8]
+}
+
+// One pass over the rows, with the results by columns: two passes put each number back into its place.
+fn pass(weights: &[f64; 64], x: &[f64; 64]) -> [f64; 64] {
+    array::from_fn(|p| product(row(weights, p / 8), row(x, p % 8)))
 }
 
 #[derive(Drop)]
 pub struct Reference {
-    // by u and x, at 8×u + x
-    weights: [f64; 64],
+    // by u and x, at 8×u + x, and by x and u
+    forward: [f64; 64],
+    inverse: [f64; 64],
 }
 
 impl Reference {
     pub fn new() -> Reference {
-        let mut weights = [0.0; 64];
-        for p in 0..64 {
-            weights[p] = weight(p / 8, p % 8);
+        Reference {
+            forward: array::from_fn(|p| weight(p / 8, p % 8)),
+            inverse: array::from_fn(|p| weight(p % 8, p / 8)),
         }
-        Reference { weights }
-    }
-
-    // One pass over the rows, with the results by columns: two passes put each number back into its place.
-    fn forward_pass(&self, x: &[f64; 64]) -> [f64; 64] {
-        let mut out = [0.0; 64];
-        for p in 0..64 {
-            let mut sum = 0.0;
-            for n in 0..8 {
-                sum += self.weights[8 * (p / 8) + n] * x[8 * (p % 8) + n];
-            }
-            out[p] = sum;
-        }
-        out
-    }
-
-    fn inverse_pass(&self, x: &[f64; 64]) -> [f64; 64] {
-        let mut out = [0.0; 64];
-        for p in 0..64 {
-            let mut sum = 0.0;
-            for u in 0..8 {
-                sum += self.weights[8 * u + p / 8] * x[8 * (p % 8) + u];
-            }
-            out[p] = sum;
-        }
-        out
     }
 
     // The coefficients of a block of samples, from -2048 to 2047.
     pub fn forward(&self, samples: &[f64; 64]) -> [i16; 64]
         ensures { (p : ℕ) → p < 64 → (negsuc 2047 ≤ℤ slice_index_or result p (pos 0)) × (slice_index_or result p (pos 0) ≤ℤ pos 2047) }
     {
-        rounded_block(&self.forward_pass(&self.forward_pass(samples)), -2048, 2047)
+        let columns = pass(&self.forward, samples);
+        rounded_block(pass(&self.forward, &columns), -2048, 2047)
     }
 
     // The results of a block of coefficients, from -256 to 255.
     pub fn inverse(&self, coefficients: &[i16; 64]) -> [i16; 64]
         ensures { (p : ℕ) → p < 64 → (negsuc 255 ≤ℤ slice_index_or result p (pos 0)) × (slice_index_or result p (pos 0) ≤ℤ pos 255) }
     {
-        let mut x = [0.0; 64];
-        for p in 0..64 {
-            x[p] = f64::from(coefficients[p]);
-        }
-        rounded_block(&self.inverse_pass(&self.inverse_pass(&x)), -256, 255)
+        let columns = pass(&self.inverse, &coefficients.map(|c| f64::from(c)));
+        rounded_block(pass(&self.inverse, &columns), -256, 255)
     }
 }

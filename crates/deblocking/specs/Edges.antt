@@ -2,10 +2,18 @@
 -- edge n lies before coordinate 8 * n, with two samples before it and two after. What is said here of horizontal edges, which run across and
 -- are crossed going down, holds of vertical ones in the picture turned, which has across and down exchanged. Assumes nothing.
 use Rattle.std.specs.Prelude.{◌≡◌, ℕ, ◌+◌, ◌-◌, ◌*◌, ◌/◌, ◌%◌, ◌<◌, ◌≤◌, Bool, true, false, cond, ◌&&◌, List, Some, None, Option, ◌==◌, nat_le, nat_lt, slice_index_or}
+use Rattle.std.specs.Option.{option_or}
 use Rattle.pictures.specs.Pictures.{Picture, covers, painted, side}
 use Rattle.pictures.specs.declared.layouts.Segment.{Segment}
 use Rattle.samples.specs.Deblocking.{deblocked, strength_of}
 use Rattle.samples.specs.declared.deblocking.Four.{Four}
+use Rattle.deblocking.specs.declared.Direction.{Direction}
+use Rattle.deblocking.specs.declared.Direction.TheVariants.{Horizontal, Vertical}
+
+-- vertical edges are horizontal ones in the picture turned
+abbrev pub is_vertical : Direction → Bool
+is_vertical Horizontal = false
+is_vertical Vertical = true
 
 -- a place or a macroblock along and over an edge, by across and down
 abbrev pub across_of : Bool → ℕ → ℕ → ℕ
@@ -54,14 +62,10 @@ smoothed k f q u v =
 abbrev pub mark_of : List (Option ℕ) → ℕ → ℕ → ℕ → Option ℕ
 mark_of marks columns column row = slice_index_or marks (row * columns + column) None
 
-abbrev pub or_else : Option ℕ → Option ℕ → Option ℕ
-or_else None other = other
-or_else (Some quantizer) other = Some quantizer
-
 -- the mark that edge n is filtered by between two macroblocks of this number along it: that of the one after the edge, else of the one before
 abbrev pub edge_mark : List (Option ℕ) → ℕ → Bool → ℕ → ℕ → ℕ → Option ℕ
 edge_mark marks columns turned side along n =
-    or_else (mark_of marks columns (across_of turned along (n * 8 / side)) (down_of turned along (n * 8 / side)))
+    option_or (mark_of marks columns (across_of turned along (n * 8 / side)) (down_of turned along (n * 8 / side)))
     (mark_of marks columns (across_of turned along ((n * 8 - 1) / side)) (down_of turned along ((n * 8 - 1) / side)))
 
 -- the quantizer by which edge n of plane q is filtered at u along it, if any

@@ -1,40 +1,68 @@
 // The deblocking filter over the edges of 8 by 8 blocks inside a segment of a picture, whatever store keeps it. An edge runs along one
-// coordinate and is crossed over the other; `turned` tells vertical edges, which run down, from horizontal ones, which run across.
+// coordinate and is crossed over the other: a horizontal one runs across, a vertical one down.
 #![tactic(auto)]
 
 ghost use Rattle.std.specs.Prelude.{◌≡◌, ◌+◌, ◌*◌, ◌≤◌, ◌&&◌, Some, ◌==◌};
 ghost use Rattle.pictures.specs.Pictures.{painted, side, written};
-ghost use Rattle.deblocking.specs.Edges.{Local, across_of, border, down_of, edge_mark, edges, edges_in, filtered, filtered_over, mark_of, or_else, quantizer_at, smoothed, turn, turn_segment};
+ghost use Rattle.deblocking.specs.Edges.{Local, across_of, border, down_of, edge_mark, edges, edges_in, filtered, filtered_over, is_vertical, mark_of, quantizer_at, smoothed, turn, turn_segment};
 
 use pictures::{Segment, Store, side_of};
 use samples::{Four, deblock};
 
-// Across, and down, of what lies along and over an edge.
-fn across_of(turned: bool, along: usize, over: usize) -> usize
-    ensures { result ≡ across_of turned along over }
-{
-    if turned { over } else { along }
+// Which way an edge runs.
+#[derive(Clone, Copy)]
+enum Direction {
+    Horizontal,
+    Vertical,
 }
 
-fn down_of(turned: bool, along: usize, over: usize) -> usize
-    ensures { result ≡ down_of turned along over }
-{
-    if turned { along } else { over }
-}
-
-// A segment by along and over.
-fn turned_segment(turned: bool, segment: Segment) -> Segment
-    ensures { result ≡ turn_segment turned segment }
-{
-    if turned {
-        Segment {
-            left: segment.top,
-            right: segment.bottom,
-            top: segment.left,
-            bottom: segment.right,
+impl Direction {
+    // Across and down, of what lies along and over an edge.
+    fn place(self, along: usize, over: usize) -> (usize, usize)
+        ensures across { result.0 ≡ across_of (is_vertical self) along over }
+        ensures down { result.1 ≡ down_of (is_vertical self) along over }
+    {
+        match self {
+            Direction::Horizontal => (along, over),
+            Direction::Vertical => (over, along),
         }
-    } else {
-        segment
+    }
+
+    // A segment by along and over.
+    fn turn_segment(self, segment: Segment) -> Segment
+        ensures { result ≡ turn_segment (is_vertical self) segment }
+    {
+        match self {
+            Direction::Horizontal => segment,
+            Direction::Vertical => Segment {
+                left: segment.top,
+                right: segment.bottom,
+                top: segment.left,
+                bottom: segment.right,
+            },
+        }
+    }
+}
+
+// The marks of a picture's macroblocks, by rows of so many columns.
+#[derive(Clone, Copy)]
+struct Marks<'a> {
+    cells: &'a [Option<u8>],
+    columns: u16,
+}
+
+impl Marks<'_> {
+    // The mark of the macroblock so many across and so many down. (Here and below the bounds are far above what 65,535 macroblocks need, and far
+    // below what a machine word holds.)
+    fn at(self, across: usize, down: usize) -> Option<u8>
+        requires across { across ≤ 2000000 }
+        requires down { down ≤ 2000000 }
+        ensures { result ≡ mark_of self.entry.cells.now self.entry.columns across down }
+    {
+        self.cells
+            .get(down * self.columns as usize + across)
+            .copied()
+            .flatten()
     }
 }
 
@@ -42,135 +70,87 @@ fn turned_segment(turned: bool, segment: Segment) -> Segment
 #[derive(Clone, Copy)]
 struct Edge {
     plane: u8,
-    turned: bool,
+    direction: Direction,
     number: usize,
+    ghost inside: { 1 ≤ number },
+    ghost few: { number ≤ 200000 },
 }
 
-// The sample at a place along and over an edge.
-fn sample_at<S: Store>(store: &S, edge: Edge, along: usize, over: usize) -> u8
-    ensures { result ≡ (turn edge.turned (S.picture store.now)).sample edge.plane along over }
-{
-    let across = across_of(edge.turned, along, over);
-    let down = down_of(edge.turned, along, over);
-    store.sample(edge.plane, across, down)
-}
-
-fn write_at<S: Store>(store: &mut S, edge: Edge, along: usize, over: usize, value: u8)
-    ensures { S.picture store.new ≡ written (S.picture store.old) edge.plane (across_of edge.turned along over) (down_of edge.turned along over) value }
-{
-    let across = across_of(edge.turned, along, over);
-    let down = down_of(edge.turned, along, over);
-    store.write(edge.plane, across, down, value);
-}
-
-// The mark of the macroblock so many along and so many over. (Here and below the bounds are far above what 65,535 macroblocks need, and far
-// below what a machine word holds.)
-fn mark_at(
-    marks: &[Option<u8>],
-    columns: u16,
-    turned: bool,
-    along: usize,
-    over: usize,
-) -> Option<u8>
-    requires { (along ≤ 2000000) × (over ≤ 2000000) }
-    ensures { result ≡ mark_of marks.now columns (across_of turned along over) (down_of turned along over) }
-{
-    let cell = down_of(turned, along, over) * columns as usize + across_of(turned, along, over);
-    if cell < marks.len() {
-        marks[cell]
-    } else {
-        None
+impl Edge {
+    // The sample at a place along and over the edge.
+    fn sample_at<S: Store>(self, store: &S, along: usize, over: usize) -> u8
+        ensures { result ≡ (turn (is_vertical self.direction) (S.picture store.now)).sample self.plane along over }
+    {
+        let (across, down) = self.direction.place(along, over);
+        store.sample(self.plane, across, down)
     }
-}
 
-fn or_else(mark: Option<u8>, other: Option<u8>) -> Option<u8>
-    ensures { result ≡ or_else mark other }
-{
-    match mark {
-        Some(quantizer) => Some(quantizer),
-        None => other,
+    fn write_at<S: Store>(self, store: &mut S, along: usize, over: usize, value: u8)
+        ensures { S.picture store.new ≡ written (S.picture store.old) self.plane (across_of (is_vertical self.direction) along over) (down_of (is_vertical self.direction) along over) value }
+    {
+        let (across, down) = self.direction.place(along, over);
+        store.write(self.plane, across, down, value);
     }
-}
 
-// The mark that an edge is filtered by between two macroblocks: the one after it, else the one before.
-fn edge_mark(marks: &[Option<u8>], columns: u16, edge: Edge, along: u16) -> Option<u8>
-    requires { (1 ≤ edge.number) × (edge.number ≤ 200000) }
-    ensures { result ≡ edge_mark marks.now columns edge.turned (side edge.plane) along edge.number }
-{
-    let side = side_of(edge.plane);
-    let after = mark_at(
-        marks,
-        columns,
-        edge.turned,
-        along as usize,
-        edge.number * 8 / side,
-    );
-    let before = mark_at(
-        marks,
-        columns,
-        edge.turned,
-        along as usize,
-        (edge.number * 8 - 1) / side,
-    );
-    or_else(after, before)
-}
-
-// Filters an edge at one place along it.
-fn smooth_place<S: Store>(store: &mut S, edge: Edge, along: usize, quantizer: u8)
-    requires { (1 ≤ edge.number) × ((edge.number ≤ 200000) × (along ≤ 2000000)) }
-    ensures { turn edge.turned (S.picture store.new) ≡ painted (edges edge.plane along (along + 1) edge.number (edge.number + 1)) (smoothed (λ _ _ _. Some quantizer) (turn edge.turned (S.picture store.old)).sample) (turn edge.turned (S.picture store.old)) }
-{
-    let first = edge.number * 8 - 2;
-    let four = Four {
-        a: sample_at(store, edge, along, first),
-        b: sample_at(store, edge, along, first + 1),
-        c: sample_at(store, edge, along, first + 2),
-        d: sample_at(store, edge, along, first + 3),
-    };
-    let new = deblock(quantizer, four);
-    write_at(store, edge, along, first, new.a);
-    write_at(store, edge, along, first + 1, new.b);
-    write_at(store, edge, along, first + 2, new.c);
-    write_at(store, edge, along, first + 3, new.d);
-}
-
-// Filters an edge from low to before high along it.
-fn smooth_run<S: Store>(store: &mut S, edge: Edge, low: usize, high: usize, quantizer: u8)
-    requires { (low ≤ high) × ((high ≤ 2000000) × ((1 ≤ edge.number) × (edge.number ≤ 200000))) }
-    ensures { turn edge.turned (S.picture store.new) ≡ painted (edges edge.plane low high edge.number (edge.number + 1)) (smoothed (λ _ _ _. Some quantizer) (turn edge.turned (S.picture store.old)).sample) (turn edge.turned (S.picture store.old)) }
-{
-    for along in low..high {
-        smooth_place(store, edge, along, quantizer);
+    // The mark that the edge is filtered by between two macroblocks: the one after it, else the one before.
+    fn mark(self, marks: Marks, along: u16) -> Option<u8>
+        ensures { result ≡ edge_mark marks.entry.cells.now marks.entry.columns (is_vertical self.direction) (side self.plane) along self.number }
+    {
+        let side = side_of(self.plane);
+        let (across, down) = self.direction.place(along as usize, self.number * 8 / side);
+        let after = marks.at(across, down);
+        let (across, down) = self
+            .direction
+            .place(along as usize, (self.number * 8 - 1) / side);
+        let before = marks.at(across, down);
+        after.or(before)
     }
-}
 
-// The same where there is a mark, and nothing where there is none.
-fn smooth_marked<S: Store>(store: &mut S, edge: Edge, low: usize, high: usize, mark: Option<u8>)
-    requires { (low ≤ high) × ((high ≤ 2000000) × ((1 ≤ edge.number) × (edge.number ≤ 200000))) }
-    ensures { turn edge.turned (S.picture store.new) ≡ painted (edges edge.plane low high edge.number (edge.number + 1)) (smoothed (λ _ _ _. mark) (turn edge.turned (S.picture store.old)).sample) (turn edge.turned (S.picture store.old)) }
-{
-    if let Some(quantizer) = mark {
-        smooth_run(store, edge, low, high, quantizer);
+    // Filters the edge at one place along it.
+    fn smooth_place<S: Store>(self, store: &mut S, along: usize, quantizer: u8)
+        ensures { let t = is_vertical self.direction in turn t (S.picture store.new) ≡ painted (edges self.plane along (along + 1) self.number (self.number + 1)) (smoothed (λ _ _ _. Some quantizer) (turn t (S.picture store.old)).sample) (turn t (S.picture store.old)) }
+    {
+        let first = self.number * 8 - 2;
+        let four = Four {
+            a: self.sample_at(store, along, first),
+            b: self.sample_at(store, along, first + 1),
+            c: self.sample_at(store, along, first + 2),
+            d: self.sample_at(store, along, first + 3),
+        };
+        let new = deblock(quantizer, four);
+        self.write_at(store, along, first, new.a);
+        self.write_at(store, along, first + 1, new.b);
+        self.write_at(store, along, first + 2, new.c);
+        self.write_at(store, along, first + 3, new.d);
     }
-}
 
-// Filters an edge between the macroblocks from left to before right along it, by the mark of each pair of them.
-fn smooth_edge<S: Store>(
-    store: &mut S,
-    marks: &[Option<u8>],
-    columns: u16,
-    edge: Edge,
-    left: u16,
-    right: u16,
-)
-    requires { (1 ≤ edge.number) × (edge.number ≤ 200000) }
-    ensures { turn edge.turned (S.picture store.new) ≡ painted (edges edge.plane (left * side edge.plane) (right * side edge.plane) edge.number (edge.number + 1)) (smoothed (quantizer_at marks.now columns edge.turned) (turn edge.turned (S.picture store.old)).sample) (turn edge.turned (S.picture store.old)) }
-{
-    let width = side_of(edge.plane);
-    for along in left..right {
-        let mark = edge_mark(marks, columns, edge, along);
-        let low = along as usize * width;
-        smooth_marked(store, edge, low, low + width, mark);
+    // Filters the edge between two macroblocks of this number along it.
+    fn smooth_pair<S: Store>(self, store: &mut S, along: u16, quantizer: u8)
+        ensures { let t = is_vertical self.direction in turn t (S.picture store.new) ≡ painted (edges self.plane (along * side self.plane) ((along + 1) * side self.plane) self.number (self.number + 1)) (smoothed (λ _ _ _. Some quantizer) (turn t (S.picture store.old)).sample) (turn t (S.picture store.old)) }
+    {
+        let width = side_of(self.plane);
+        for place in along as usize * width..(along as usize + 1) * width {
+            self.smooth_place(store, place, quantizer);
+        }
+    }
+
+    // The same where there is a mark, and nothing where there is none.
+    fn smooth_marked<S: Store>(self, store: &mut S, along: u16, mark: Option<u8>)
+        ensures { let t = is_vertical self.direction in turn t (S.picture store.new) ≡ painted (edges self.plane (along * side self.plane) ((along + 1) * side self.plane) self.number (self.number + 1)) (smoothed (λ _ _ _. mark) (turn t (S.picture store.old)).sample) (turn t (S.picture store.old)) }
+    {
+        if let Some(quantizer) = mark {
+            self.smooth_pair(store, along, quantizer);
+        }
+    }
+
+    // Filters the edge between the macroblocks from left to before right along it, by the mark of each pair of them.
+    fn smooth<S: Store>(self, store: &mut S, marks: Marks, left: u16, right: u16)
+        ensures { let t = is_vertical self.direction in turn t (S.picture store.new) ≡ painted (edges self.plane (left * side self.plane) (right * side self.plane) self.number (self.number + 1)) (smoothed (quantizer_at marks.entry.cells.now marks.entry.columns t) (turn t (S.picture store.old)).sample) (turn t (S.picture store.old)) }
+    {
+        for along in left..right {
+            let mark = self.mark(marks, along);
+            self.smooth_marked(store, along, mark);
+        }
     }
 }
 
@@ -192,32 +172,37 @@ fn first_inside(plane: u8, macroblock: u16) -> usize
 // Filters the edges of one plane inside a segment, which is given by along and over.
 fn smooth_plane<S: Store>(
     store: &mut S,
-    marks: &[Option<u8>],
-    columns: u16,
+    marks: Marks,
     plane: u8,
-    turned: bool,
+    direction: Direction,
     segment: Segment,
 )
-    ensures { turn turned (S.picture store.new) ≡ painted (λ q u v. (plane == q) && edges_in segment q u v) (smoothed (quantizer_at marks.now columns turned) (turn turned (S.picture store.old)).sample) (turn turned (S.picture store.old)) }
+    ensures { let t = is_vertical direction in turn t (S.picture store.new) ≡ painted (λ q u v. (plane == q) && edges_in segment q u v) (smoothed (quantizer_at marks.entry.cells.now marks.entry.columns t) (turn t (S.picture store.old)).sample) (turn t (S.picture store.old)) }
 {
     for number in first_inside(plane, segment.top)..border_of(plane, segment.bottom) {
         let edge = Edge {
             plane,
-            turned,
+            direction,
             number,
         };
-        smooth_edge(store, marks, columns, edge, segment.left, segment.right);
+        edge.smooth(store, marks, segment.left, segment.right);
     }
 }
 
-// Filters the horizontal edges inside a segment, or, turned, the vertical ones, in all planes.
-fn smooth_edges<S: Store>(store: &mut S, marks: &[Option<u8>], turned: bool, segment: Segment)
-    ensures { S.picture store.new ≡ filtered_over turned marks.now segment (S.picture store.old) }
+// Filters the edges of one direction inside a segment, in all planes.
+fn smooth_edges<S: Store>(
+    store: &mut S,
+    cells: &[Option<u8>],
+    direction: Direction,
+    segment: Segment,
+)
+    ensures { S.picture store.new ≡ filtered_over (is_vertical direction) cells.now segment (S.picture store.old) }
 {
     let columns = store.columns();
-    let inner = turned_segment(turned, segment);
+    let marks = Marks { cells, columns };
+    let inner = direction.turn_segment(segment);
     for plane in 0..3 {
-        smooth_plane(store, marks, columns, plane, turned, inner);
+        smooth_plane(store, marks, plane, direction, inner);
     }
 }
 
@@ -225,8 +210,8 @@ fn smooth_edges<S: Store>(store: &mut S, marks: &[Option<u8>], turned: bool, seg
 fn smooth_segment<S: Store>(store: &mut S, marks: &[Option<u8>], segment: Segment)
     ensures { S.picture store.new ≡ filtered marks.now segment (S.picture store.old) }
 {
-    smooth_edges(store, marks, false, segment);
-    smooth_edges(store, marks, true, segment);
+    smooth_edges(store, marks, Direction::Horizontal, segment);
+    smooth_edges(store, marks, Direction::Vertical, segment);
 }
 
 // Filters the edges inside a segment by the marks of its macroblocks: the quantizers of those that were coded. The table has a cell for each

@@ -1,37 +1,35 @@
 // Reads a script of calls from standard input and prints an answer for each.
 #![tactic(auto)]
 
-ghost use Rattle.std.specs.Prelude.{◌≡◌, ℕ, ◌+◌, ◌-◌, ◌^◌, min};
+ghost use Rattle.std.specs.Prelude.{◌≡◌, ℕ, ◌+◌, ◌-◌, ◌^◌, min, if◌then◌else◌};
 
 use records::checked::Delivery;
 use records::delivery::check_delivery;
 use records::types::PictureKind;
-use script::fields::split_line;
-use script::line::{Line, parse_line};
+use script::fields::lines_of;
+use script::line::{LineError, Records, parse_line};
 use script::show::Record;
+use std::alloc::AllocError;
 use std::io::Read;
 
-// How many calls a script has made so far, and how many of them were refused.
-#[derive(Drop)]
+// How many calls a script has made so far, and how many of them were refused. (`transcripts` counts in the same way beside its text; a crate for two
+// numbers would be no plainer.)
+#[derive(Default, Drop)]
 struct Tally {
     calls: u64,
     refused: u64,
 }
 
 impl Tally {
-    fn accepted(&mut self)
+    // Counts a call, and whether it was refused.
+    fn count(&mut self, refused: bool)
         ensures calls { self.new.calls ≡ min (self.old.calls + 1) (2 ^ 64 - 1) }
-        ensures refused { self.new.refused ≡ self.old.refused }
+        ensures refused { self.new.refused ≡ (if refused then min (self.old.refused + 1) (2 ^ 64 - 1) else self.old.refused) }
     {
         self.calls = self.calls.saturating_add(1);
-    }
-
-    fn refused(&mut self)
-        ensures calls { self.new.calls ≡ min (self.old.calls + 1) (2 ^ 64 - 1) }
-        ensures refused { self.new.refused ≡ min (self.old.refused + 1) (2 ^ 64 - 1) }
-    {
-        self.calls = self.calls.saturating_add(1);
-        self.refused = self.refused.saturating_add(1);
+        if refused {
+            self.refused = self.refused.saturating_add(1);
+        }
     }
 }
 
@@ -45,22 +43,20 @@ fn answer_records(
 ) -> anyhow::Result<()> {
     match check_delivery(kind, macroblocks, bytes) {
         Ok(delivered) => {
-            let mut delivery = Delivery::new(kind, macroblocks, bytes);
-            for index in 0..macroblocks {
-                if let Some(macroblock) = delivery.next_macroblock() {
-                    rt.println(Record {
-                        index,
-                        macroblock: &macroblock,
-                    })?;
-                }
+            let delivery = Delivery::new(kind, macroblocks, bytes);
+            for (index, macroblock) in delivery.enumerate() {
+                rt.println(Record {
+                    index,
+                    macroblock: &macroblock,
+                })?;
             }
-            tally.accepted();
+            tally.count(false);
             let words = delivered.words;
             let intra = delivered.intra;
             println!(rt; "records ok {words} {intra}")?;
         }
         Err(fault) => {
-            tally.refused();
+            tally.count(true);
             let refusal = fault.refusal();
             println!(rt; "records no {refusal}")?;
         }
@@ -72,37 +68,33 @@ fn answer_records(
 fn answer_line(
     rt: &HostRuntime,
     tally: &mut Tally,
-    number: u64,
+    number: usize,
     text: &[u8],
 ) -> anyhow::Result<()> {
-    match parse_line(rt.alloc(), text)? {
-        Line::Blank => {}
-        Line::Records {
-            kind,
-            macroblocks,
-            bytes,
-        } => answer_records(rt, tally, kind, macroblocks as usize, bytes.as_slice())?,
-        Line::Wrong(mistake) => println!(rt; "error {number}: {mistake}")?,
+    match parse_line(rt.alloc(), text) {
+        Ok(None) => {}
+        Ok(
+            Some(
+                Records {
+                    kind,
+                    macroblocks,
+                    bytes,
+                },
+            ),
+        ) => answer_records(rt, tally, kind, macroblocks as usize, bytes.as_slice())?,
+        Err(LineError::Wrong(mistake)) => println!(rt; "error {number}: {mistake}")?,
+        Err(LineError::OutOfMemory) => return Err(AllocError.into()),
     }
     Ok(())
 }
 
 // Answers the lines of a script, one by one.
 fn answer_script(rt: &HostRuntime, script: &[u8]) -> anyhow::Result<()> {
-    let mut tally = Tally {
-        calls: 0,
-        refused: 0,
-    };
-    let mut number = 0u64;
-    let mut rest = script;
-    while !rest.is_empty() {
-        let (line, after) = split_line(rest);
-        number = number.saturating_add(1);
-        answer_line(rt, &mut tally, number, line)?;
-        rest = after;
+    let mut tally = Tally::default();
+    for (index, line) in lines_of(script).enumerate() {
+        answer_line(rt, &mut tally, index + 1, line)?;
     }
-    let calls = tally.calls;
-    let refused = tally.refused;
+    let Tally { calls, refused } = tally;
     println!(rt; "done {calls} calls, {refused} refused")?;
     Ok(())
 }

@@ -4,7 +4,6 @@ use native.Mathlib.Nat.{mod-one, zero-mod}
 use borrow.Author.Tests.{eqb-false}
 use Rattle.std.proofs.lemmas.Bool.Decides.{nat_tests}
 use Rattle.std.proofs.lemmas.List.{drop_more, get_or_append_left, take_more}
-use lib.Seq.{take-length}
 use Rattle.records.specs.declared.types.Macroblock.{Macroblock}
 use Rattle.records.specs.declared.types.Macroblock.TheVariants.{Skipped, Inter, Intra}
 use Rattle.records.specs.Deliveries.{is_intra}
@@ -39,7 +38,7 @@ set_at [] ys y v = refl
 set_at (x ∷ xs) ys y v = ap (λ r. x ∷ r) (set_at xs ys y v)
 
 -- one cell more
-pub set_next : {X : Type 0} (xs ys : List X) (i : ℕ) (v : X) → length xs ≡ i → i < length ys → set (xs ++ drop i ys) i v ≡ (xs ++ (v ∷ [])) ++ drop (i + 1) ys
+set_next : {X : Type 0} (xs ys : List X) (i : ℕ) (v : X) → length xs ≡ i → i < length ys → set (xs ++ drop i ys) i v ≡ (xs ++ (v ∷ [])) ++ drop (i + 1) ys
 set_next xs ys i v e l =
     rw (drop_more ys i v l, ← e) (set_at xs (drop (length xs + 1) ys) (get_or ys (length xs) v) v ∙ sym (append_assoc xs (v ∷ []) (drop (length xs + 1) ys)))
 
@@ -144,14 +143,3 @@ cell_more table entry done done' i v e l h d = rw (e, d) (set_next done entry i 
 pub vector_value : (columns : ℕ) (xs ys : List Vector) (i k : ℕ) (m : Macroblock) (r : Vector) → 0 < columns → length xs ≡ i → k ≡ i → r ≡ vector_for columns (xs ++ ys) i m → r ≡ vector_for columns xs k m
 vector_value columns xs ys i k m r some l n e =
     e ∙ ap (λ j. vector_for columns (xs ++ ys) j m) (sym l) ∙ vector_done columns xs ys some m ∙ ap (λ j. vector_for columns xs j m) (l ∙ sym n)
-
--- all are done
-pub all_done : {X : Type 0} (xs : List X) (i : ℕ) → [] ≡ drop i xs → i ≤ length xs → i ≡ length xs
-all_done [] zero e h = refl
-all_done [] (suc i) e h = absurd (omega arith)
-all_done (x ∷ xs) zero e h = let z : ◌≡◌ {A = ℕ} 0 1 = cc in absurd (omega arith)
-all_done (x ∷ xs) (suc i) e h = ap suc (all_done xs i e (omega arith))
-
-pub all_set : {X : Type 0} (cells : List Macroblock → List X) (records : List Macroblock) (entry : List X) (i : ℕ) → i ≡ length records
-    → cells (take i records) ++ drop i entry ≡ cells records ++ drop (length records) entry
-all_set cells records entry i e = rw e (ap (λ ms. cells ms ++ drop (length records) entry) (take-length records))

@@ -6,59 +6,11 @@ use crate::vectors::Vector;
 use records::types::{Difference, Macroblock};
 use samples::{median, vector_component};
 
-const ZERO: Vector = Vector {
-    horizontal: 0,
-    vertical: 0,
-};
-
 // The vector at a place of the segment, and zero where there is none.
 pub fn vector_at(vectors: &[Vector], place: usize) -> Vector
     ensures { result ≡ vectors_at vectors.now place }
 {
-    if place < vectors.len() {
-        vectors[place]
-    } else {
-        ZERO
-    }
-}
-
-// The candidate left of the macroblock that stands i-th.
-fn left_of(columns: usize, vectors: &[Vector], i: usize) -> Vector
-    requires { 0 < columns }
-    ensures { result ≡ left_of columns vectors.now i }
-{
-    if i % columns == 0 {
-        ZERO
-    } else {
-        vector_at(vectors, i - 1)
-    }
-}
-
-// The candidate above it.
-fn above_of(columns: usize, vectors: &[Vector], i: usize) -> Vector
-    requires { 0 < columns }
-    ensures { result ≡ above_of columns vectors.now i }
-{
-    if i < columns {
-        left_of(columns, vectors, i)
-    } else {
-        vector_at(vectors, i - columns)
-    }
-}
-
-// The candidate above it and to the right.
-fn above_right_of(columns: usize, vectors: &[Vector], i: usize) -> Vector
-    requires { (0 < columns) × (i < 65535) }
-    ensures { result ≡ above_right_of columns vectors.now i }
-{
-    if (i + 1) % columns == 0 {
-        return ZERO;
-    }
-    if i < columns {
-        left_of(columns, vectors, i)
-    } else {
-        vector_at(vectors, i + 1 - columns)
-    }
+    vectors.get(place).copied().unwrap_or_default()
 }
 
 // The median of three, a component at a time.
@@ -69,18 +21,6 @@ fn middle_of(a: Vector, b: Vector, c: Vector) -> Vector
         horizontal: median(a.horizontal, b.horizontal, c.horizontal),
         vertical: median(a.vertical, b.vertical, c.vertical),
     }
-}
-
-// The predictor: the median of the three candidates.
-fn predictor_of(columns: usize, vectors: &[Vector], i: usize) -> Vector
-    requires { (0 < columns) × (i < 65535) }
-    ensures { result ≡ predictor_of columns vectors.now i }
-{
-    middle_of(
-        left_of(columns, vectors, i),
-        above_of(columns, vectors, i),
-        above_right_of(columns, vectors, i),
-    )
 }
 
 impl Vector {
@@ -94,15 +34,67 @@ impl Vector {
     }
 }
 
-// The vector of the macroblock that stands i-th in a segment of so many columns, where the vectors of those before it stand in a table.
-pub fn vector_for(columns: usize, vectors: &[Vector], i: usize, macroblock: &Macroblock) -> Vector
-    requires { (0 < columns) × (i < 65535) }
-    ensures { result ≡ vector_for columns vectors.now i macroblock.now }
-{
-    match macroblock {
-        Macroblock::Inter { difference, .. } => predictor_of(columns, vectors, i).corrected(
-            *difference,
-        ),
-        _ => ZERO,
+// The neighbours of the macroblock that stands at a place of a segment of so many columns, in raster order: the vectors of those before it stand in
+// a table.
+#[derive(Clone, Copy)]
+pub struct Neighbours<'a> {
+    pub vectors: &'a [Vector],
+    pub columns: usize,
+    pub place: usize,
+    pub ghost some_columns: { 0 < columns },
+    pub ghost few: { place < 65535 },
+}
+
+impl Neighbours<'_> {
+    // The candidate left of the macroblock.
+    fn left(&self) -> Vector
+        ensures { result ≡ left_of self.now.columns self.now.vectors.now self.now.place }
+    {
+        if self.place % self.columns == 0 {
+            Vector::default()
+        } else {
+            vector_at(self.vectors, self.place - 1)
+        }
+    }
+
+    // The candidate above it.
+    fn above(&self) -> Vector
+        ensures { result ≡ above_of self.now.columns self.now.vectors.now self.now.place }
+    {
+        if self.place < self.columns {
+            self.left()
+        } else {
+            vector_at(self.vectors, self.place - self.columns)
+        }
+    }
+
+    // The candidate above it and to the right.
+    fn above_right(&self) -> Vector
+        ensures { result ≡ above_right_of self.now.columns self.now.vectors.now self.now.place }
+    {
+        if (self.place + 1) % self.columns == 0 {
+            Vector::default()
+        } else if self.place < self.columns {
+            self.left()
+        } else {
+            vector_at(self.vectors, self.place + 1 - self.columns)
+        }
+    }
+
+    // The predictor: the median of the three candidates.
+    fn predictor(&self) -> Vector
+        ensures { result ≡ predictor_of self.now.columns self.now.vectors.now self.now.place }
+    {
+        middle_of(self.left(), self.above(), self.above_right())
+    }
+
+    // The vector of the macroblock itself.
+    pub fn vector_for(&self, macroblock: &Macroblock) -> Vector
+        ensures { result ≡ vector_for self.now.columns self.now.vectors.now self.now.place macroblock.now }
+    {
+        match macroblock {
+            Macroblock::Inter { difference, .. } => self.predictor().corrected(*difference),
+            _ => Vector::default(),
+        }
     }
 }

@@ -1,18 +1,15 @@
 -- A row belongs to a segment just when it lies between the segment's first row and the next one's.
-use Rattle.std.proofs.Common.{◌≡◌, ℕ, zero, suc, ◌+◌, ◌-◌, ◌*◌, ◌/◌, ◌%◌, ◌^◌, ◌<◌, ◌≤◌, Bool, true, false, cond, ◌&&◌, eqb, ltb, leb, ◌⊎◌, Decides, sym, refl, ap, ◌∙◌, inl, inr, ⊎_elim, le_refl, mul-le-mul_left, add-one, arith, pow_pos, pow-add}
-use native.Mathlib.Nat.{div-eq_of_lt, div-div-eq-div-mul}
-use mir.Val.{bool_byte}
+use Rattle.std.proofs.Common.{◌≡◌, ℕ, zero, suc, ◌+◌, ◌-◌, ◌*◌, ◌/◌, ◌%◌, ◌^◌, ◌<◌, ◌≤◌, Bool, true, false, cond, ◌&&◌, eqb, ltb, leb, ◌⊎◌, Decides, map, sym, refl, ap, ◌∙◌, inl, inr, ⊎_elim, le_refl, mul-le-mul_left, add-one, arith, pow_pos, pow-add}
+use Rattle.std.specs.List.{count_by, range_with_len}
+use native.Mathlib.Nat.{div-eq_of_lt}
+use Rattle.std.proofs.lemmas.List.{map-id}
+use Rattle.std.proofs.lemmas.List.FromFn.{sum_by-map-range_with_len_more}
 use Rattle.std.proofs.lemmas.Nat.{div_below, le-div}
 use Rattle.std.proofs.lemmas.Bool.{and_from, and_parts, both_ways, cases_lt, cases_eq, cases_order, eq-eqb, ne_eqb, le-leb, lt-leb, lt-ltb, le-ltb, ltb-true}
-use Rattle.std.proofs.lemmas.Bool.Decides.{nat_tests}
 use Rattle.pictures.specs.declared.formats.Format.{Format}
 use Rattle.pictures.specs.declared.formats.Format.TheVariants.{SubQcif, Qcif, Cif}
 use Rattle.pictures.specs.Formats.{rows_of}
 use Rattle.pictures.specs.Segments.{has_bit, sound, segment_of, rows_before, first_row, segment_count, Segmented}
-
-pub odd_bit : (n : ℕ) → has_bit n 0 ≡ eqb (n % 2) 1
-unfolding has_bit
-odd_bit n = let e : n / 1 ≡ n = omega arith in ap (λ m. eqb (m % 2) 1) e
 
 -- a number with no bit from n on is below 2 ^ n, and back
 pub no_bit : (number n bit : ℕ) → number < 2 ^ n → n ≤ bit → has_bit number bit ≡ false
@@ -39,6 +36,12 @@ below_bits number n (suc k) lt none = below_bits number n k (lower (cases_lt num
         let c : number / 2 ^ (n + k) % 2 ≡ 1 = omega arith in
         absurd (both_ways _ (none (n + k) (omega arith)) (eq-eqb _ 1 c))
 
+-- the least number with a bit at or above the row count fits
+pub limit_fits : (format : Format) → 1 * 2 ^ rows_of format % 4294967296 ≡ 2 ^ rows_of format
+limit_fits SubQcif = refl
+limit_fits Qcif = refl
+limit_fits Cif = refl
+
 -- a layout is sound just when bit 0 is set and no bit at or above the row count
 pub sound_bits : (format : Format) (layout : ℕ) → layout < 2 ^ 32
     → Decides (sound format layout) ((has_bit layout 0 ≡ true) × ((row : ℕ) → rows_of format ≤ row → has_bit layout row ≡ false))
@@ -53,36 +56,34 @@ sound_bits format layout fits = (
     below Qcif = below_bits layout 9 23 fits
     below Cif = below_bits layout 18 14 fits
 
+-- of n numbers from a on, how many pass a test, with the last of them taken off
+counted_more : (p : ℕ → Bool) (a n : ℕ) → count_by p (range_with_len a (suc n)) ≡ cond (p (a + n)) (suc (count_by p (range_with_len a n))) (count_by p (range_with_len a n))
+counted_more p a n =
+    ap (count_by p) (sym (map-id (range_with_len a (suc n))) ∙ ap (λ m. map (λ (x : ℕ). x) (range_with_len a m)) (sym (add-one n)))
+    ∙ sum_by-map-range_with_len_more (λ x. cond (p x) 1 0) (λ x. x) a n (a + n) refl
+    ∙ ap (λ xs. count_by p xs + cond (p (a + n)) 1 0) (map-id (range_with_len a n))
+    ∙ chosen (p (a + n)) (count_by p (range_with_len a n))
+  where
+    chosen : (b : Bool) (k : ℕ) → k + cond b 1 0 ≡ cond b (suc k) k
+    chosen true k = omega arith
+    chosen false k = omega arith
+
+-- the bits below row 0, counted, are the number of the segment
+pub bits_counted : (l n : ℕ) → count_by (λ r. has_bit l (r + 1)) (range_with_len 0 n) ≡ segment_of l n
+unfolding segment_of
+bits_counted l zero = refl
+bits_counted l (suc n) =
+    counted_more (λ r. has_bit l (r + 1)) 0 n ∙ (let e : 0 + n ≡ n = omega arith in rw (e, add-one n, bits_counted l n) refl)
+
+-- and so are the rows
+pub rows_counted : (l k n : ℕ) → count_by (λ r. ltb (segment_of l r) k) (range_with_len 0 n) ≡ rows_before l k n
+unfolding rows_before
+rows_counted l k zero = refl
+rows_counted l k (suc n) = counted_more (λ r. ltb (segment_of l r) k) 0 n ∙ (let e : 0 + n ≡ n = omega arith in rw (e, rows_counted l k n) refl)
+
 cond_up : (t : Bool) (n : ℕ) → (n ≤ cond t (suc n) n) × (cond t (suc n) n ≤ suc n)
 cond_up true n = (omega arith, omega arith)
 cond_up false n = (omega arith, omega arith)
-
--- a counter takes one more bit
-counted_bit : (b n : ℕ) → b < 2 → n + b ≡ cond (eqb b 1) (suc n) n
-counted_bit b n h = grind (arith, nat_tests)
-
-halved : (l n : ℕ) → l / 2 ^ n / 2 ≡ l / 2 ^ suc n
-halved l n = div-div-eq-div-mul l (2 ^ n) 2 ∙ ap (λ m. l / m) (sym (pow-add 2 n 1) ∙ ap (λ m. 2 ^ m) (let e : n + 1 ≡ suc n = omega arith in e))
-
-pub segment_more : (l n k rest : ℕ) → rest ≡ l / 2 ^ n → k ≡ segment_of l n → (rest / 2 ≡ l / 2 ^ (n + 1)) × (k + rest / 2 % 2 ≡ segment_of l (n + 1))
-unfolding segment_of has_bit
-segment_more l n k rest e f =
-    let h : rest / 2 ≡ l / 2 ^ suc n = ap (λ m. m / 2) e ∙ halved l n in
-    (rw add-one h, rw (add-one, h, f) (counted_bit (l / 2 ^ suc n % 2) (segment_of l n) (omega arith)))
-
-pub rows_more : (l k n before s d : ℕ) → before ≡ rows_before l k n → s ≡ segment_of l n → d ≡ bool_byte (ltb s k)
-    → (before + d ≡ rows_before l k (n + 1)) × (d ≤ 1)
-unfolding rows_before
-rows_more l k n before s d e f g =
-    (rw (add-one, e, g, f) (one_more (ltb (segment_of l n) k)), rw g (few (ltb s k)))
-  where
-    one_more : (b : Bool) → rows_before l k n + bool_byte b ≡ cond b (suc (rows_before l k n)) (rows_before l k n)
-    one_more true = omega arith
-    one_more false = omega arith
-
-    few : (b : Bool) → bool_byte b ≤ 1
-    few true = omega arith
-    few false = omega arith
 
 -- from a row to the next the number rises by one or not at all
 up_one : (l n : ℕ) → (segment_of l n ≤ segment_of l (suc n)) × (segment_of l (suc n) ≤ suc (segment_of l n))

@@ -1,11 +1,21 @@
 -- The formats of a picture: sub-QCIF, QCIF and CIF.
-use Rattle.std.specs.Prelude.{ℕ, cond, Some, None, Option, ◌==◌}
+use Rattle.std.specs.Prelude.{ℕ, cond, Some, None, Option, Result, List, ◌==◌, ◌++◌, codes, decimal}
+use Rattle.std.specs.Option.{ok_or}
 use Rattle.pictures.specs.declared.formats.Format.{Format}
 use Rattle.pictures.specs.declared.formats.Format.TheVariants.{SubQcif, Qcif, Cif}
+use Rattle.pictures.specs.declared.formats.UnknownFormat.{UnknownFormat}
 
 -- the numbers 1, 2 and 3 name a format, and no other does
 abbrev pub numbered : ℕ → Option Format
 numbered n = cond (n == 1) (Some SubQcif) (cond (n == 2) (Some Qcif) (cond (n == 3) (Some Cif) None))
+
+-- the format of a number, or the number as one that names none
+abbrev pub named : ℕ → Result Format UnknownFormat
+named n = ok_or (numbered n) (record { 0 = n })
+
+-- what is printed of a number that names no format
+abbrev pub unknown_text : UnknownFormat → List ℕ
+unknown_text unknown = codes "no format has the number " ++ decimal unknown.0
 
 abbrev pub number_of : Format → ℕ
 number_of SubQcif = 1

@@ -1,5 +1,8 @@
-ghost use Rattle.std.specs.Prelude.{◌≡◌, ◌*◌, ◌≤◌};
-ghost use Rattle.pictures.specs.Formats.{columns_of, number_of, numbered, rows_of};
+ghost use Rattle.std.specs.Prelude.{◌≡◌, ◌*◌, ◌≤◌, Some};
+ghost use Rattle.pictures.specs.Formats.{columns_of, named, number_of, rows_of, unknown_text};
+
+use std::error::Error;
+use std::fmt;
 
 // The three sizes of a picture, which go by the numbers 1, 2 and 3.
 #[derive(Clone, Copy, PartialEq, Eq, Debug)]
@@ -9,30 +12,48 @@ pub enum Format {
     Cif,
 }
 
-impl Format {
-    // The format of a number, or absence where the number names none.
-    pub fn from_number(number: u8) -> Option<Format>
-        ensures { result ≡ numbered number }
-    {
+// A number that names no format.
+#[derive(Clone, Copy, PartialEq, Eq, Debug)]
+pub struct UnknownFormat(pub u8);
+
+impl fmt::Display for UnknownFormat {
+    ghost output = { λ unknown. Some (unknown_text unknown) };
+
+    fn fmt<W: fmt::Write>(&self, f: &mut fmt::Formatter<W>) -> fmt::Result {
+        write!(f, "no format has the number {}", self.0)
+    }
+}
+
+impl Error for UnknownFormat {}
+
+impl TryFrom<u8> for Format {
+    type Error = UnknownFormat;
+
+    ghost try_from_gives = { λ number outcome. outcome ≡ named number };
+
+    fn try_from(number: u8) -> Result<Format, UnknownFormat> {
         match number {
-            1 => Some(Format::SubQcif),
-            2 => Some(Format::Qcif),
-            3 => Some(Format::Cif),
-            _ => None,
+            1 => Ok(Format::SubQcif),
+            2 => Ok(Format::Qcif),
+            3 => Ok(Format::Cif),
+            _ => Err(UnknownFormat(number)),
         }
     }
+}
 
-    // The number that the format goes by.
-    pub fn number(self) -> u8
-        ensures { result ≡ number_of self }
-    {
-        match self {
+impl From<Format> for u8 {
+    ghost from_gives = { λ format number. number ≡ number_of format };
+
+    fn from(format: Format) -> u8 {
+        match format {
             Format::SubQcif => 1,
             Format::Qcif => 2,
             Format::Cif => 3,
         }
     }
+}
 
+impl Format {
     // The macroblocks across.
     pub fn columns(self) -> u16
         ensures value { result ≡ columns_of self }

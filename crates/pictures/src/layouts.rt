@@ -1,4 +1,5 @@
-ghost use Rattle.std.specs.Prelude.{◌≡◌, ℕ, suc, ◌^◌, ◌<◌, ◌≤◌, true, false, Decides};
+ghost use Rattle.std.specs.List.{count_by, range_with_len};
+ghost use Rattle.std.specs.Prelude.{◌≡◌, ℕ, nat_lt, ◌+◌, suc, ◌^◌, ◌<◌, ◌≤◌, true, false, Decides};
 ghost use Rattle.pictures.specs.Formats.{rows_of};
 ghost use Rattle.pictures.specs.Segments.{Segmented, has_bit, rows_before, segment_at, segment_count, segment_of, sound};
 
@@ -13,30 +14,51 @@ pub struct Segment {
     pub bottom: u16,
 }
 
-// The number of the segment that a row belongs to: how many segments begin below row 0 and not below this row.
+// Whether a layout has the bit of this number.
+#[tactic(auto, unfolding(crate::specs::Segments::has_bit))]
+fn has_bit(layout: u32, bit: u32) -> bool
+    ensures { result ≡ has_bit layout bit }
+{
+    match layout.checked_shr(bit) {
+        Some(rest) => rest % 2 == 1,
+        None => false,
+    }
+}
+
+// How many segments begin below row 0 and not below this row.
+fn begun(layout: u32, row: u16) -> usize
+    ensures counted { result ≡ count_by (λ above. has_bit layout (above + 1)) (range_with_len 0 row) }
+    ensures few { result ≤ row }
+{
+    (0..row)
+        .filter(|above| has_bit(layout, u32::from(*above) + 1))
+        .count()
+}
+
+// The number of the segment that a row belongs to.
 fn segment_of(layout: u32, row: u16) -> u32
     ensures value { result ≡ segment_of layout row }
     ensures few { result ≤ row }
 {
-    let mut rest = layout;
-    let mut number = 0;
-    for _ in 0..row {
-        rest /= 2;
-        number += rest % 2;
-    }
-    number
+    begun(layout, row) as u32
 }
 
 // Of so many rows, how many belong to a segment with a lower number.
+fn rows_below(layout: u32, number: u64, rows: u16) -> usize
+    ensures counted { result ≡ count_by (λ row. nat_lt (segment_of layout row) number) (range_with_len 0 rows) }
+    ensures few { result ≤ rows }
+{
+    (0..rows)
+        .filter(|row| u64::from(segment_of(layout, *row)) < number)
+        .count()
+}
+
+// The row that a segment begins at, if it is one of so many rows, and else their number.
 fn rows_before(layout: u32, number: u64, rows: u16) -> u16
     ensures value { result ≡ rows_before layout number rows }
     ensures few { result ≤ rows }
 {
-    let mut before = 0;
-    for row in 0..rows {
-        before += u16::from((segment_of(layout, row) as u64) < number);
-    }
-    before
+    rows_below(layout, number, rows) as u16
 }
 
 impl Format {
@@ -44,11 +66,7 @@ impl Format {
     fn layout_limit(self) -> u32
         ensures { result ≡ 2 ^ rows_of self }
     {
-        match self {
-            Format::SubQcif => 64,
-            Format::Qcif => 512,
-            Format::Cif => 262_144,
-        }
+        1 << self.rows()
     }
 
     // Whether a layout is sound: bit 0 is set, and no bit at or above the row count.
@@ -56,10 +74,7 @@ impl Format {
         ensures value { result ≡ sound self layout }
         ensures bits { Decides result ((has_bit layout 0 ≡ true) × ((row : ℕ) → rows_of self ≤ row → has_bit layout row ≡ false)) }
     {
-        if layout % 2 == 0 {
-            return false;
-        }
-        layout < self.layout_limit()
+        has_bit(layout, 0) && layout < self.layout_limit()
     }
 
     // How many segments a layout makes.

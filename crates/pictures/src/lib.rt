@@ -4,9 +4,11 @@
 mod formats;
 mod layouts;
 mod planes;
+mod sizes;
 mod sweeps;
 
-pub use formats::Format;
+pub use formats::{Format, UnknownFormat};
 pub use layouts::Segment;
 pub use planes::{Store, is_inside, side_of, start_of};
+pub use sizes::Size;
 pub use sweeps::{copy_picture, copy_segment, fill_segment};

@@ -3,6 +3,8 @@ ghost use Rattle.pictures.specs.Pictures.{Picture, has, inside, painted, reading
 
 // A store of a picture's samples, by its meaning: a size in macroblocks, which is fixed, and three planes. Code above relies on these
 // contracts and on no layout of memory.
+// A plane is a coordinate like across and down: a store answers for every number, and says of 3 and more that they lie outside. The three are passed
+// apart, since every caller goes over one of them while the others stay.
 pub trait Store {
     // what the store means
     ghost picture: { Self → Picture };
@@ -32,7 +34,7 @@ pub trait Store {
     }
 
     // Sets one or more of a row's samples from across on, those inside, and answers the place after them. A store that keeps neighbours
-    // together may set them together.
+    // together may set them together. (That a place is left before right is the test of the loops that call this: a type for it would say no more.)
     fn fill_run(&mut self, plane: u8, across: usize, down: usize, right: usize, value: u8) -> usize
         requires { across < right }
         ensures next { (across < result) × (result ≤ right) }
@@ -60,7 +62,7 @@ pub trait Store {
         across + 1
     }
 
-    // Sets a row's samples from left to before right, those inside.
+    // Sets a row's samples from left to before right, those inside. (By `while`, since the store says with each run how far it came.)
     fn fill_row(&mut self, plane: u8, down: usize, left: usize, right: usize, value: u8)
         ensures { picture self.new ≡ painted (span plane down left right) (λ _ _ _. value) (picture self.old) }
     {
@@ -70,7 +72,8 @@ pub trait Store {
         }
     }
 
-    // Copies a row's samples from left to before right, those inside, from the same places of another store.
+    // Copies a row's samples from left to before right, those inside, from the same places of another store. (By `while`, as above. One body
+    // for both would be passed the store itself, which no trait's own body may do under the same trait.)
     fn copy_row(&mut self, other: &Self, plane: u8, down: usize, left: usize, right: usize)
         ensures { picture self.new ≡ painted (span plane down left right) (picture other.now).sample (picture self.old) }
     {

@@ -1,18 +1,61 @@
 ghost use Rattle.std.specs.Prelude.{◌≡◌, ℕ, ◌<◌, true, ◌&&◌, ◌==◌};
-ghost use Rattle.pictures.specs.Pictures.{covers, painted};
+ghost use Rattle.pictures.specs.Pictures.{covers, painted, span};
 
 use crate::layouts::Segment;
 use crate::planes::{Store, side_of};
 
-// Sets a segment's samples in one plane, and no others.
-fn fill_plane<S: Store>(store: &mut S, segment: Segment, plane: u8, value: u8)
-    ensures { S.picture store.new ≡ painted (λ q u v. (plane == q) && covers segment q u v) (λ _ _ _. value) (S.picture store.old) }
+// What a sweep puts into the rows of a segment.
+trait Brush<S: Store> {
+    // the samples that it paints, by plane, across and down
+    ghost paint: { Self → ℕ → ℕ → ℕ → ℕ };
+
+    // Paints a row's samples from left to before right, those inside, and no others.
+    fn paint_row(&self, store: &mut S, plane: u8, down: usize, left: usize, right: usize)
+        ensures { S.picture store.new ≡ painted (span plane down left right) (paint self.now) (S.picture store.old) };
+}
+
+// One value for every sample.
+#[derive(Drop)]
+struct Value(u8);
+
+impl<S: Store> Brush<S> for Value {
+    ghost paint = { λ brush _ _ _. brush.0 };
+
+    fn paint_row(&self, store: &mut S, plane: u8, down: usize, left: usize, right: usize) {
+        store.fill_row(plane, down, left, right, self.0);
+    }
+}
+
+// The samples of a store at the same places.
+#[derive(Drop)]
+struct Source<'a, S>(&'a S);
+
+impl<S: Store> Brush<S> for Source<'_, S> {
+    ghost paint = { λ brush. (S.picture brush.0.now).sample };
+
+    fn paint_row(&self, store: &mut S, plane: u8, down: usize, left: usize, right: usize) {
+        store.copy_row(self.0, plane, down, left, right);
+    }
+}
+
+// Paints a segment's samples in one plane, and no others.
+fn sweep_plane<S: Store, B: Brush<S>>(brush: &B, store: &mut S, segment: Segment, plane: u8)
+    ensures { S.picture store.new ≡ painted (λ q u v. (plane == q) && covers segment q u v) (B.paint brush.now) (S.picture store.old) }
 {
     let side = side_of(plane);
     let left = segment.left as usize * side;
     let right = segment.right as usize * side;
     for down in segment.top as usize * side..segment.bottom as usize * side {
-        store.fill_row(plane, down, left, right, value);
+        brush.paint_row(store, plane, down, left, right);
+    }
+}
+
+// Paints the samples of a segment in all planes, and no others.
+fn sweep<S: Store, B: Brush<S>>(brush: &B, store: &mut S, segment: Segment)
+    ensures { S.picture store.new ≡ painted (covers segment) (B.paint brush.now) (S.picture store.old) }
+{
+    for plane in 0..3 {
+        sweep_plane(brush, store, segment, plane);
     }
 }
 
@@ -20,30 +63,14 @@ fn fill_plane<S: Store>(store: &mut S, segment: Segment, plane: u8, value: u8)
 pub fn fill_segment<S: Store>(store: &mut S, segment: Segment, value: u8)
     ensures { S.picture store.new ≡ painted (covers segment) (λ _ _ _. value) (S.picture store.old) }
 {
-    for plane in 0..3 {
-        fill_plane(store, segment, plane, value);
-    }
-}
-
-// Copies a segment's samples in one plane, and no others.
-fn copy_plane<S: Store>(from: &S, to: &mut S, segment: Segment, plane: u8)
-    ensures { S.picture to.new ≡ painted (λ q u v. (plane == q) && covers segment q u v) (S.picture from.now).sample (S.picture to.old) }
-{
-    let side = side_of(plane);
-    let left = segment.left as usize * side;
-    let right = segment.right as usize * side;
-    for down in segment.top as usize * side..segment.bottom as usize * side {
-        to.copy_row(from, plane, down, left, right);
-    }
+    sweep(&Value(value), store, segment);
 }
 
 // Copies the samples of a segment, in all planes, from one store to another, and no others.
 pub fn copy_segment<S: Store>(from: &S, to: &mut S, segment: Segment)
     ensures { S.picture to.new ≡ painted (covers segment) (S.picture from.now).sample (S.picture to.old) }
 {
-    for plane in 0..3 {
-        copy_plane(from, to, segment, plane);
-    }
+    sweep(&Source(from), to, segment);
 }
 
 // Copies every sample that the second store has a place for from the first.

@@ -1,17 +1,16 @@
 // Plays the lines of a script one after the other.
 ghost use Rattle.std.specs.Prelude.{◌≡◌, IfOk};
-ghost use Rattle.call_lines.specs.Lines.{meant};
-ghost use Rattle.player.specs.Gatherings.{gathering_of};
+ghost use Rattle.call_lines.specs.Lines.{meant, told};
+ghost use Rattle.player.specs.Gatherings.{gathering_by, gathering_of};
 
-use call_lines::line::{Line, StoreKind, TransformKind, parse_line};
+use call_lines::line::{Line, Said, StoreKind, TransformKind, read_line};
 use calls::answers::Answer;
 use calls::faults::PictureFault;
-use pictures::Format;
 use records::checked::Delivery;
 use records::delivery::check_delivery;
-use records::types::PictureKind;
 use reel::reels::Reel;
-use script::fields::split_line;
+use script::fields::lines_of;
+use script::line::Records;
 use script::show::Record;
 use seats::calling::miss_calls;
 use seats::seat::{Choices, Seat};
@@ -20,52 +19,31 @@ use transcripts::answers::{Misread, Word};
 use transcripts::transcript::Transcript;
 
 // The lines of a script. All are read before the first call is made, so that nothing that may fail stands between an opening and its closing.
-fn read_lines(heap: Global, script: &[u8]) -> Result<Vec<Line>, AllocError> {
-    let mut lines = Vec::new(heap);
-    let mut rest = script;
-    while !rest.is_empty() {
-        let (line, after) = split_line(rest);
-        lines.push(parse_line(heap, line)?)?;
-        rest = after;
-    }
-    Ok(lines)
+fn read_lines(heap: Global, script: &[u8]) -> Result<Vec<Said>, AllocError> {
+    lines_of(script)
+        .map(|line| -> Result<Said, AllocError> { read_line(heap, line) })
+        .try_collect(heap)
 }
 
-// A new reel with its format.
-fn new_reel(number: u32) -> Result<(Reel, Format), PictureFault>
-    ensures { IfOk result (λ p. p.0.format ≡ p.1) }
-{
-    let reel = Reel::new(number)?;
-    let Ok(number) = u8::try_from(number) else {
-        return Err(PictureFault::Format);
-    };
-    match Format::from_number(number) {
-        Some(format) => Ok((reel, format)),
-        None => Err(PictureFault::Format),
-    }
-}
-
-// Makes the calls that some lines gathered.
+// Makes the calls that some lines gathered. (The seat goes by value from step to step, and not in a struct that is lent: a seat cannot be let go, so none
+// can be put over another.)
 fn make_calls(
     seat: Option<Seat>,
     heap: Global,
-    lines: &[Line],
+    lines: &[Said],
     transcript: &mut Transcript,
 ) -> Option<Seat> {
-    match seat {
-        Some(seat) => Some(seat.make_calls(heap, lines, transcript)),
-        None => {
-            miss_calls(lines, transcript);
-            None
-        }
-    }
+    let Some(seat) = seat else {
+        miss_calls(lines, transcript);
+        return None;
+    };
+    Some(seat.make_calls(heap, lines, transcript))
 }
 
 // Leaves the seat of the reel there was, if there was one.
 fn leave(seat: Option<Seat>, transcript: &mut Transcript) {
-    match seat {
-        Some(seat) => seat.leave(transcript),
-        None => {}
+    if let Some(seat) = seat {
+        seat.leave(transcript);
     }
 }
 
@@ -77,10 +55,10 @@ fn begin(
     choices: Choices,
     transcript: &mut Transcript,
 ) -> Option<Seat> {
-    match new_reel(format) {
-        Ok((reel, format)) => {
+    match Reel::new(format) {
+        Ok(reel) => {
             leave(seat, transcript);
-            match Seat::new(heap, reel, format, choices) {
+            match Seat::new(heap, reel, choices) {
                 Ok(seat) => {
                     transcript.accept(Word::New);
                     Some(seat)
@@ -106,17 +84,18 @@ fn tell_ages(seat: &Option<Seat>, transcript: &mut Transcript) {
 }
 
 // Tells the macroblocks of a delivery, or its refusal.
-fn tell_records(kind: PictureKind, macroblocks: usize, bytes: &[u8], transcript: &mut Transcript) {
+fn tell_records(records: &Records, transcript: &mut Transcript) {
+    let kind = records.kind;
+    let macroblocks = records.macroblocks as usize;
+    let bytes = records.bytes.as_slice();
     match check_delivery(kind, macroblocks, bytes) {
         Ok(delivered) => {
-            let mut delivery = Delivery::new(kind, macroblocks, bytes);
-            for index in 0..macroblocks {
-                if let Some(macroblock) = delivery.next_macroblock() {
-                    transcript.add(Record {
-                        index,
-                        macroblock: &macroblock,
-                    });
-                }
+            let delivery = Delivery::new(kind, macroblocks, bytes);
+            for (index, macroblock) in delivery.enumerate() {
+                transcript.add(Record {
+                    index,
+                    macroblock: &macroblock,
+                });
             }
             transcript.answer(Word::Records, Answer::Delivered(delivered));
         }
@@ -132,21 +111,19 @@ fn play_line(
     seat: Option<Seat>,
     heap: Global,
     number: usize,
-    line: &Line,
+    line: &Said,
     choices: &mut Choices,
     transcript: &mut Transcript,
 ) -> Option<Seat> {
     match line {
-        Line::Store(kind) => choices.store = *kind,
-        Line::Transform(kind) => choices.transform = *kind,
-        Line::New { format } => return begin(seat, heap, *format, *choices, transcript),
-        Line::Ages => tell_ages(&seat, transcript),
-        Line::Records {
-            kind,
-            macroblocks,
-            bytes,
-        } => tell_records(*kind, *macroblocks as usize, bytes.as_slice(), transcript),
-        Line::Wrong(mistake) => transcript.add(Misread {
+        Ok(Some(Line::Store(kind))) => choices.store = *kind,
+        Ok(Some(Line::Transform(kind))) => choices.transform = *kind,
+        Ok(Some(Line::New { format })) => {
+            return begin(seat, heap, *format, *choices, transcript);
+        }
+        Ok(Some(Line::Ages)) => tell_ages(&seat, transcript),
+        Ok(Some(Line::Records(records))) => tell_records(records, transcript),
+        Err(mistake) => transcript.add(Misread {
             line: number,
             mistake: *mistake,
         }),
@@ -162,22 +139,30 @@ enum Gathering {
     Interrupts,
 }
 
-fn gathering_of(line: &Line) -> Gathering
-    ensures { result ≡ gathering_of (meant line.now) }
+fn gathering_of(line: &Said) -> Gathering
+    ensures { result ≡ gathering_of (told line.now) }
 {
     match line {
-        Line::Blank
-        | Line::Open { .. }
-        | Line::Deliver { .. }
-        | Line::Sample { .. }
-        | Line::Age { .. } => Gathering::Joins,
+        Ok(None) => Gathering::Joins,
+        Ok(Some(line)) => gathering_by(line),
+        Err(_) => Gathering::Interrupts,
+    }
+}
+
+fn gathering_by(line: &Line) -> Gathering
+    ensures { result ≡ gathering_by (meant line.now) }
+{
+    match line {
+        Line::Open { .. } | Line::Deliver { .. } | Line::Sample { .. } | Line::Age { .. } => {
+            Gathering::Joins
+        }
         Line::Close => Gathering::Ends,
         _ => Gathering::Interrupts,
     }
 }
 
 // Plays lines: the calls on a reel are made list by list, each up to a closing or to a line that makes no such call.
-fn play_lines(heap: Global, lines: &[Line], store: StoreKind, transcript: &mut Transcript) {
+fn play_lines(heap: Global, lines: &[Said], store: StoreKind, transcript: &mut Transcript) {
     let mut choices = Choices {
         store,
         transform: TransformKind::TwoPass,

@@ -1,9 +1,13 @@
 -- Prediction inside a segment. Every coordinate is first brought inside the segment, so that nothing outside it is seen. Assumes nothing.
-use Rattle.std.specs.Prelude.{ℕ, ◌-◌, ◌*◌, ◌%◌, min, max, Bool, ℤ, pos, negsuc, ◌+ℤ◌, ◌==◌}
+use Rattle.std.specs.Prelude.{ℕ, ◌-◌, ◌*◌, ◌%◌, min, max, Bool, ◌&&◌, ℤ, pos, negsuc, ◌+ℤ◌, ◌==◌, nat_le, nat_lt}
 use Rattle.pictures.specs.declared.layouts.Segment.{Segment}
 use Rattle.pictures.specs.Pictures.{side}
 use Rattle.samples.specs.Prediction.{predicted}
 use Rattle.transform.specs.Sums.{floor}
+
+-- a rectangle of macroblocks has one at least, and no more across and down than the largest picture
+abbrev pub is_segment : Segment → Bool
+is_segment s = nat_lt s.left s.right && (nat_le s.right 22 && (nat_lt s.top s.bottom && nat_le s.bottom 22))
 
 -- a coordinate, brought from low to before high
 unfoldable pub held : ℕ → ℕ → ℤ → ℕ

@@ -1,9 +1,9 @@
 // Prediction of one sample. Coordinates are kept 64 above their value, so that they are never below 0 while they are moved.
-ghost use Rattle.std.specs.Prelude.{◌≡◌, ℕ, ◌+◌, ◌*◌, ◌/◌, ◌<◌, ◌≤◌, ℤ, pos, ◌+ℤ◌, ◌-ℤ◌};
+ghost use Rattle.std.specs.Prelude.{◌≡◌, ℕ, ◌+◌, ◌*◌, ◌/◌, ◌<◌, ◌≤◌, true, false, ℤ, MatchOption, pos, ◌+ℤ◌, ◌-ℤ◌};
 ghost use Rattle.pictures.specs.Pictures.{side};
 ghost use Rattle.samples.specs.Prediction.{rounding_of};
 ghost use Rattle.transform.specs.Sums.{floor};
-ghost use Rattle.prediction.specs.Window.{held, is_half, prediction_at, window};
+ghost use Rattle.prediction.specs.Window.{held, is_half, is_segment, prediction_at, window};
 
 use pictures::{Segment, Store, side_of};
 use samples::{Rounding, between_four, between_two};
@@ -34,86 +34,102 @@ fn moved(coordinate: usize, component: i8) -> usize
 
 // A coordinate that is 64 above its value, brought from low to before high.
 fn hold(low: usize, high: usize, coordinate: usize) -> usize
-    requires { (low < high) × (high ≤ 65535) }
+    requires some { low < high }
+    requires few { high ≤ 65535 }
     ensures { result ≡ held low high (pos coordinate -ℤ pos 64) }
 {
     coordinate.min(high + 63).max(low + 64) - 64
 }
 
-// A coordinate across, 64 above its value, brought inside the segment.
-fn hold_across(segment: Segment, plane: u8, across: usize) -> usize
-    requires { (segment.left < segment.right) × (segment.right ≤ 22) }
-    ensures { result ≡ held (segment.left * side plane) (segment.right * side plane) (pos across -ℤ pos 64) }
+// A coordinate of a plane, 64 above its value, brought into the macroblocks from low to before high.
+fn hold_inside(plane: u8, low: u16, high: u16, coordinate: usize) -> usize
+    requires some { low < high }
+    requires few { high ≤ 22 }
+    ensures { result ≡ held (low * side plane) (high * side plane) (pos coordinate -ℤ pos 64) }
 {
     let side = side_of(plane);
-    hold(
-        segment.left as usize * side,
-        segment.right as usize * side,
-        across,
-    )
+    hold(low as usize * side, high as usize * side, coordinate)
 }
 
-// A coordinate down, 64 above its value, brought inside the segment.
-fn hold_down(segment: Segment, plane: u8, down: usize) -> usize
-    requires { (segment.top < segment.bottom) × (segment.bottom ≤ 22) }
-    ensures { result ≡ held (segment.top * side plane) (segment.bottom * side plane) (pos down -ℤ pos 64) }
+// Whether a rectangle of macroblocks has one at least, and no more across and down than the largest picture.
+fn is_segment(segment: Segment) -> bool
+    ensures { result ≡ is_segment segment }
 {
-    let side = side_of(plane);
-    hold(
-        segment.top as usize * side,
-        segment.bottom as usize * side,
-        down,
-    )
+    segment.left < segment.right
+        && segment.right <= 22
+        && segment.top < segment.bottom
+        && segment.bottom <= 22
 }
 
-// The finished picture as a segment sees it, at coordinates that are 64 above their value.
-fn sample_in<S: Store>(finished: &S, segment: Segment, plane: u8, across: usize, down: usize) -> u8
-    requires { (segment.left < segment.right) × ((segment.right ≤ 22) × ((segment.top < segment.bottom) × (segment.bottom ≤ 22))) }
-    ensures { result ≡ window segment (S.picture finished.now).sample plane (pos across -ℤ pos 64) (pos down -ℤ pos 64) }
-{
-    finished.sample(
-        plane,
-        hold_across(segment, plane, across),
-        hold_down(segment, plane, down),
-    )
+// What a segment is predicted from: the finished picture, of which it sees no more than what lies inside the segment. A segment has a macroblock
+// at least, and no more across and down than the largest picture.
+#[derive(Drop)]
+pub struct Window<'a, S> {
+    pub finished: &'a S,
+    pub segment: Segment,
+    pub rounding: Rounding,
+    pub ghost some_columns: { segment.left < segment.right },
+    pub ghost few_columns: { segment.right ≤ 22 },
+    pub ghost some_rows: { segment.top < segment.bottom },
+    pub ghost few_rows: { segment.bottom ≤ 22 },
 }
 
-// The prediction at a place of a plane, for a vector of so many half samples across and down.
-pub fn predict_at<S: Store>(
-    finished: &S,
-    segment: Segment,
-    rounding: Rounding,
-    plane: u8,
-    x: usize,
-    y: usize,
-    across: i8,
-    down: i8,
-) -> u8
-    requires bounds { (segment.left < segment.right) × ((segment.right ≤ 22) × ((segment.top < segment.bottom) × (segment.bottom ≤ 22))) }
-    requires small { (x ≤ 65535) × (y ≤ 65535) }
-    ensures { result ≡ prediction_at segment (rounding_of rounding) (S.picture finished.now).sample plane x y across down }
-{
-    let u = moved(x, across);
-    let v = moved(y, down);
-    let here = sample_in(finished, segment, plane, u, v);
-    match (is_half(across), is_half(down)) {
-        (false, false) => here,
-        (true, false) => between_two(
-            rounding,
-            here,
-            sample_in(finished, segment, plane, u + 1, v),
-        ),
-        (false, true) => between_two(
-            rounding,
-            here,
-            sample_in(finished, segment, plane, u, v + 1),
-        ),
-        (true, true) => between_four(
-            rounding,
-            here,
-            sample_in(finished, segment, plane, u + 1, v),
-            sample_in(finished, segment, plane, u, v + 1),
-            sample_in(finished, segment, plane, u + 1, v + 1),
-        ),
+impl<'a, S> Window<'a, S> {
+    // The window of a segment, and absence for what is no segment.
+    pub fn new(finished: &'a S, segment: Segment, rounding: Rounding) -> Option<Window<'a, S>>
+        ensures { MatchOption result (is_segment segment ≡ false) (λ w. (is_segment segment ≡ true) × (w.finished ≡ finished.entry) × (w.segment ≡ segment) × (w.rounding ≡ rounding)) }
+    {
+        if is_segment(segment) {
+            Some(Window {
+                finished,
+                segment,
+                rounding,
+            })
+        } else {
+            None
+        }
+    }
+}
+
+impl<S: Store> Window<'_, S> {
+    // The finished picture as the segment sees it, at coordinates that are 64 above their value.
+    fn sample(&self, plane: u8, across: usize, down: usize) -> u8
+        ensures { result ≡ window self.now.segment (S.picture self.now.finished.now).sample plane (pos across -ℤ pos 64) (pos down -ℤ pos 64) }
+    {
+        let Segment {
+            left,
+            right,
+            top,
+            bottom,
+        } = self.segment;
+        self.finished.sample(
+            plane,
+            hold_inside(plane, left, right, across),
+            hold_inside(plane, top, bottom, down),
+        )
+    }
+
+    // The prediction at a place of a plane, for a vector of so many half samples across and down. (Not by the rule for four given neighbours: only
+    // those that count are read.)
+    pub fn predict(&self, plane: u8, x: usize, y: usize, across: i8, down: i8) -> u8
+        requires across { x ≤ 65535 }
+        requires down { y ≤ 65535 }
+        ensures { result ≡ prediction_at self.now.segment (rounding_of self.now.rounding) (S.picture self.now.finished.now).sample plane x y across down }
+    {
+        let u = moved(x, across);
+        let v = moved(y, down);
+        let here = self.sample(plane, u, v);
+        match (is_half(across), is_half(down)) {
+            (false, false) => here,
+            (true, false) => between_two(self.rounding, here, self.sample(plane, u + 1, v)),
+            (false, true) => between_two(self.rounding, here, self.sample(plane, u, v + 1)),
+            (true, true) => between_four(
+                self.rounding,
+                here,
+                self.sample(plane, u + 1, v),
+                self.sample(plane, u, v + 1),
+                self.sample(plane, u + 1, v + 1),
+            ),
+        }
     }
 }

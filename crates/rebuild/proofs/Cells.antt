@@ -2,12 +2,10 @@
 use Rattle.std.proofs.Common.{◌≡◌, ℕ, zero, suc, ◌+◌, ◌-◌, ◌*◌, ◌/◌, ◌<◌, ◌≤◌, true, ltb, leb, List, ◌++◌, length, get_or, take, drop, ℤ, Ok, sym, refl, ap, ◌∙◌, mul_comm, add-mul, arith}
 use Rattle.std.proofs.lemmas.Nat.{mul-add-lt}
 use Rattle.std.proofs.lemmas.List.{drop_at, get_or_append_left, length-take-le}
-use Rattle.std.proofs.lemmas.Result.{IfOk-at_ok}
 use Rattle.std.proofs.lemmas.Bool.Decides.{nat_tests}
 use Rattle.records.specs.declared.types.Macroblock.{Macroblock}
 use Rattle.records.specs.declared.types.PictureKind.{PictureKind}
-use Rattle.records.specs.Deliveries.{Whole, read}
-use Rattle.records.proofs.Wholes.{reads_whole}
+use Rattle.records.specs.Deliveries.{read}
 use Rattle.motion.specs.declared.vectors.Vector.{Vector}
 use Rattle.motion.specs.Vectors.{zero_vector}
 use Rattle.pictures.specs.declared.layouts.Segment.{Segment}
@@ -15,13 +13,10 @@ use Rattle.pictures.specs.Pictures.{covers, side}
 use Rattle.rebuild.specs.Rebuilt.{accepted, count_of, set_from}
 use Rattle.rebuild.specs.Segments.{cell_at, samples_by}
 
--- an accepted delivery has its records, one for each macroblock
+-- an accepted delivery has its records
 pub accepted_is : (kind : PictureKind) (n : ℕ) (bytes : List ℕ) (records : List Macroblock) → read kind n bytes ≡ Ok records → accepted kind n bytes ≡ records
 unfolding accepted
 accepted_is kind n bytes records e = rw e
-
-pub all_there : (kind : PictureKind) (n : ℕ) (bytes : List ℕ) (records : List Macroblock) → read kind n bytes ≡ Ok records → length records ≡ n
-all_there kind n bytes records e = (IfOk-at_ok (Whole kind n) e (reads_whole kind n bytes)).counted
 
 -- the rows above a segment, and its own
 pub rows_join : (top bottom columns : ℕ) → top ≤ bottom → top * columns + (bottom - top) * columns ≡ bottom * columns

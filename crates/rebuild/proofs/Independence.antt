@@ -1,5 +1,5 @@
 -- A segment is rebuilt from its own places of the finished picture, and from none where all its macroblocks are INTRA.
-use Rattle.std.proofs.Common.{◌≡◌, ℕ, zero, suc, ◌*◌, ◌<◌, ◌≤◌, true, List, ℤ, pos, negsuc, Option, refl, ap, arith}
+use Rattle.std.proofs.Common.{◌≡◌, ℕ, zero, suc, ◌*◌, ◌<◌, ◌≤◌, true, List, ℤ, pos, negsuc, Some, None, Option, refl, ap, arith}
 use Rattle.std.proofs.lemmas.Bool.{le-leb, lt-ltb}
 use Rattle.std.proofs.lemmas.Bool.Decides.{nat_tests}
 use Rattle.records.specs.declared.types.Macroblock.{Macroblock}
@@ -12,8 +12,6 @@ use Rattle.pictures.specs.Pictures.{Picture, covers, side}
 use Rattle.prediction.specs.Window.{held, prediction_at, window}
 use Rattle.deblocking.specs.Edges.{filtered}
 use Rattle.rebuild.specs.Blocks.{predicted_from}
-use Rattle.rebuild.specs.declared.source.Source.{Source}
-use Rattle.rebuild.specs.declared.source.Source.TheVariants.{Nothing, Moved}
 use Rattle.rebuild.specs.Laws.{Independent}
 use Rattle.rebuild.specs.Macroblocks.{coded_sample, macroblock_sample, source_for}
 use Rattle.rebuild.specs.Rebuilt.{count_of, rebuilt, width_of}
@@ -50,9 +48,9 @@ module _ (s : Segment) (wide : s.left < s.right) (high : s.top < s.bottom) where
     unfolding prediction_at
     prediction_same rounding u v across down = simp window_same
 
-    source_same : (rounding : ℕ) (source : Source) (u v : ℕ) → predicted_from s rounding f source q u v ≡ predicted_from s rounding g source q u v
-    source_same rounding Nothing u v = refl
-    source_same rounding (Moved across down) u v = prediction_same rounding u v across down
+    source_same : (rounding : ℕ) (source : Option Vector) (u v : ℕ) → predicted_from s rounding f source q u v ≡ predicted_from s rounding g source q u v
+    source_same rounding None u v = refl
+    source_same rounding (Some vector) u v = prediction_same rounding u v vector.horizontal vector.vertical
 
     coded_same : (meaning : List ℤ → ℕ → ℕ → ℤ) (rounding : ℕ) (m : Macroblock) (vector : Vector) (u v : ℕ)
         → coded_sample meaning s rounding f m vector q u v ≡ coded_sample meaning s rounding g m vector q u v

@@ -1,5 +1,5 @@
 -- The places of a macroblock, block by block.
-use Rattle.std.proofs.Common.{◌≡◌, ℕ, zero, suc, ◌+◌, ◌*◌, ◌%◌, ◌<◌, ◌≤◌, Bool, true, false, ◌&&◌, ◌||◌, eqb, ltb, List, get_or, replicate, ℤ, pos, refl, arith}
+use Rattle.std.proofs.Common.{◌≡◌, ℕ, zero, suc, ◌+◌, ◌*◌, ◌%◌, ◌<◌, ◌≤◌, Bool, true, false, ◌&&◌, ◌||◌, eqb, ltb, List, Option, get_or, replicate, ℤ, pos, refl, arith}
 use Rattle.records.specs.declared.types.Macroblock.{Macroblock}
 use Rattle.records.specs.declared.types.Macroblock.TheVariants.{Skipped, Inter, Intra}
 use Rattle.motion.specs.declared.vectors.Vector.{Vector}
@@ -7,7 +7,6 @@ use Rattle.pictures.specs.declared.layouts.Segment.{Segment}
 use Rattle.std.proofs.lemmas.Bool.Decides.{nat_tests}
 use Rattle.pictures.specs.Pictures.{Picture, covers, has, inside, painted}
 use Rattle.pictures.proofs.Painting.{same_picture}
-use Rattle.rebuild.specs.declared.source.Source.{Source}
 use Rattle.rebuild.specs.Blocks.{block_at, summed}
 use Rattle.rebuild.specs.Macroblocks.{block_of, left_in, macroblock_at, coded_sample, macroblock_sample, plane_of, residual_of, source_for, top_in}
 
@@ -85,7 +84,7 @@ agreeing places new new' f same = same_picture _ _ refl refl (λ q u v. at q u v
     at q u v false e = simp (e, and_false (has f q u v))
 
 -- a block's samples are the macroblock's
-pub block_samples : (meaning : List ℤ → ℕ → ℕ → ℤ) (s : Segment) (rounding : ℕ) (picture : ℕ → ℕ → ℕ → ℕ) (m : Macroblock) (vector : Vector) (source : Source) (residual : List ℤ) (p b q u v : ℕ)
+pub block_samples : (meaning : List ℤ → ℕ → ℕ → ℤ) (s : Segment) (rounding : ℕ) (picture : ℕ → ℕ → ℕ → ℕ) (m : Macroblock) (vector : Vector) (source : Option Vector) (residual : List ℤ) (p b q u v : ℕ)
     → source ≡ source_for m vector p → q ≡ p → block_of q u v ≡ b → get_or residual (8 * (v % 8) + u % 8) (pos 0) ≡ residual_of meaning m b (u % 8) (v % 8)
     → summed s rounding picture source residual q u v ≡ coded_sample meaning s rounding picture m vector q u v
 unfolding summed coded_sample

@@ -1,21 +1,20 @@
 -- A block of 8 by 8 samples of a plane: each is the sum of a prediction and a residual, brought into 0 to 255. Assumes nothing.
-use Rattle.std.specs.Prelude.{ℕ, ◌+◌, ◌*◌, ◌%◌, Bool, ◌&&◌, List, ℤ, pos, ◌+ℤ◌, ◌==◌, nat_le, nat_lt, slice_index_or}
+use Rattle.std.specs.Prelude.{ℕ, ◌+◌, ◌*◌, ◌%◌, Bool, ◌&&◌, List, ℤ, Some, None, Option, pos, ◌+ℤ◌, ◌==◌, nat_le, nat_lt, slice_index_or}
+use Rattle.motion.specs.declared.vectors.Vector.{Vector}
 use Rattle.pictures.specs.declared.layouts.Segment.{Segment}
 use Rattle.prediction.specs.Window.{prediction_at}
 use Rattle.samples.specs.Clipping.{clipped}
-use Rattle.rebuild.specs.declared.source.Source.{Source}
-use Rattle.rebuild.specs.declared.source.Source.TheVariants.{Nothing, Moved}
 
--- the prediction at a place; nothing predicts zero
-abbrev pub predicted_from : Segment → ℕ → (ℕ → ℕ → ℕ → ℕ) → Source → ℕ → ℕ → ℕ → ℕ
-predicted_from s rounding picture Nothing p x y = 0
-predicted_from s rounding picture (Moved across down) p x y = prediction_at s rounding picture p x y across down
+-- the prediction at a place, by a vector; nothing predicts zero
+abbrev pub predicted_from : Segment → ℕ → (ℕ → ℕ → ℕ → ℕ) → Option Vector → ℕ → ℕ → ℕ → ℕ
+predicted_from s rounding picture None p x y = 0
+predicted_from s rounding picture (Some vector) p x y = prediction_at s rounding picture p x y vector.horizontal vector.vertical
 
 -- the places of the block whose first sample is at left and top
 unfoldable pub block_at : ℕ → ℕ → ℕ → ℕ → ℕ → ℕ → Bool
 block_at p left top q u v = p == q && (nat_le left u && (nat_lt u (left + 8) && (nat_le top v && nat_lt v (top + 8))))
 
 -- the samples of a block: residuals stand at 8 * down + across
-unfoldable pub summed : Segment → ℕ → (ℕ → ℕ → ℕ → ℕ) → Source → List ℤ → ℕ → ℕ → ℕ → ℕ
+unfoldable pub summed : Segment → ℕ → (ℕ → ℕ → ℕ → ℕ) → Option Vector → List ℤ → ℕ → ℕ → ℕ → ℕ
 summed s rounding picture source residual q u v =
     clipped (pos (predicted_from s rounding picture source q u v) +ℤ slice_index_or residual (8 * (v % 8) + u % 8) (pos 0))

@@ -1,5 +1,5 @@
 -- The samples of a macroblock, in all planes. Assumes nothing.
-use Rattle.std.specs.Prelude.{ℕ, ◌+◌, ◌-◌, ◌*◌, ◌/◌, ◌%◌, Bool, cond, ◌&&◌, List, [], ℤ, pos, ◌+ℤ◌, None, ◌==◌, nat_le, nat_lt, slice_index_or}
+use Rattle.std.specs.Prelude.{ℕ, ◌+◌, ◌-◌, ◌*◌, ◌/◌, ◌%◌, Bool, cond, ◌&&◌, List, [], ℤ, pos, ◌+ℤ◌, Some, None, Option, ◌==◌, nat_le, nat_lt, slice_index_or}
 use Rattle.records.specs.declared.types.Block.{Block}
 use Rattle.records.specs.declared.types.Macroblock.{Macroblock}
 use Rattle.records.specs.declared.types.Macroblock.TheVariants.{Skipped, Inter, Intra}
@@ -10,8 +10,6 @@ use Rattle.pictures.specs.Pictures.{side}
 use Rattle.samples.specs.Clipping.{clipped}
 use Rattle.samples.specs.Vectors.{chroma_of}
 use Rattle.transform.specs.Coefficients.{block_coefficients}
-use Rattle.rebuild.specs.declared.source.Source.{Source}
-use Rattle.rebuild.specs.declared.source.Source.TheVariants.{Nothing, Moved}
 use Rattle.rebuild.specs.Blocks.{predicted_from}
 
 -- the places of the macroblock in a column and a row, in all planes
@@ -37,11 +35,15 @@ top_in row b = cond (nat_lt b 4) (16 * row + 8 * (b / 2)) (8 * row)
 abbrev pub component_for : ℕ → ℤ → ℤ
 component_for q z = cond (q == 0) z (chroma_of z)
 
--- what a macroblock is predicted from
-abbrev pub source_for : Macroblock → Vector → ℕ → Source
-source_for Skipped vector q = Moved (component_for q vector.horizontal) (component_for q vector.vertical)
-source_for (Inter quantizer pattern d blocks) vector q = Moved (component_for q vector.horizontal) (component_for q vector.vertical)
-source_for (Intra quantizer pattern blocks) vector q = Nothing
+-- a vector serves a plane by its components for it
+abbrev pub vector_in : ℕ → Vector → Vector
+vector_in q vector = record { horizontal = component_for q vector.horizontal; vertical = component_for q vector.vertical }
+
+-- what a macroblock is predicted from: the finished picture, moved by the vector, or nothing
+abbrev pub source_for : Macroblock → Vector → ℕ → Option Vector
+source_for Skipped vector q = Some (vector_in q vector)
+source_for (Inter quantizer pattern d blocks) vector q = Some (vector_in q vector)
+source_for (Intra quantizer pattern blocks) vector q = None
 
 abbrev pub no_block : Block
 no_block = record { dc = None; levels = [] }

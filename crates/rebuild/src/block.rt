@@ -5,30 +5,27 @@ ghost use Rattle.samples.specs.Clipping.{clipped};
 ghost use Rattle.samples.specs.Prediction.{rounding_of};
 ghost use Rattle.rebuild.specs.Blocks.{block_at, predicted_from, summed};
 
-use crate::source::Source;
-use pictures::{Segment, Store};
-use prediction::window::predict_at;
-use samples::{Rounding, add_residual};
+use crate::places::BlockPlace;
+use motion::vectors::Vector;
+use pictures::Store;
+use prediction::window::Window;
+use samples::add_residual;
 
-// The prediction at a place.
+// The prediction at a place, by a vector; without a vector nothing is predicted.
 fn predicted_sample<S: Store>(
-    finished: &S,
-    segment: Segment,
-    rounding: Rounding,
-    source: Source,
+    window: &Window<S>,
+    source: Option<Vector>,
     plane: u8,
     x: usize,
     y: usize,
 ) -> u8
-    requires bounds { (segment.left < segment.right) × ((segment.right ≤ 22) × ((segment.top < segment.bottom) × (segment.bottom ≤ 22))) }
-    requires small { (x ≤ 65535) × (y ≤ 65535) }
-    ensures { result ≡ predicted_from segment (rounding_of rounding) (S.picture finished.now).sample source plane x y }
+    requires across { x ≤ 65535 }
+    requires down { y ≤ 65535 }
+    ensures { let w = window.now in result ≡ predicted_from w.segment (rounding_of w.rounding) (S.picture w.finished.now).sample source plane x y }
 {
     match source {
-        Source::Nothing => 0,
-        Source::Moved { across, down } => predict_at(
-            finished, segment, rounding, plane, x, y, across, down,
-        ),
+        None => 0,
+        Some(vector) => window.predict(plane, x, y, vector.horizontal, vector.vertical),
     }
 }
 
@@ -46,26 +43,27 @@ fn set_sample<S: Store>(
     working.write(plane, x, y, add_residual(prediction, residual));
 }
 
-// Sets the samples of the block whose first sample is at left and top, and no others.
+// Sets the samples of the block at a place, and no others.
 pub fn rebuild_block<S: Store>(
-    finished: &S,
+    window: &Window<S>,
     working: &mut S,
-    segment: Segment,
-    rounding: Rounding,
-    source: Source,
-    plane: u8,
-    left: usize,
-    top: usize,
+    source: Option<Vector>,
+    place: BlockPlace,
     residual: &[i16; 64],
 )
-    requires bounds { (segment.left < segment.right) × ((segment.right ≤ 22) × ((segment.top < segment.bottom) × (segment.bottom ≤ 22))) }
-    requires place { (left ≤ 1000) × ((left % 8 ≡ 0) × ((top ≤ 1000) × (top % 8 ≡ 0))) }
-    ensures { S.picture working.new ≡ painted (block_at plane left top) (summed segment (rounding_of rounding) (S.picture finished.now).sample source residual.now) (S.picture working.old) }
+    ensures { let w = window.now in S.picture working.new ≡ painted (block_at place.plane place.left place.top) (summed w.segment (rounding_of w.rounding) (S.picture w.finished.now).sample source residual.now) (S.picture working.old) }
 {
-    for place in 0..64 {
-        let x = left + place % 8;
-        let y = top + place / 8;
-        let prediction = predicted_sample(finished, segment, rounding, source, plane, x, y);
-        set_sample(working, plane, x, y, prediction, residual[place]);
+    let BlockPlace { plane, left, top } = place;
+    // A copy of its own, so that what the window says is not read again after each sample that is written.
+    let own = Window {
+        finished: window.finished,
+        segment: window.segment,
+        rounding: window.rounding,
+    };
+    for n in 0..64 {
+        let x = left + n % 8;
+        let y = top + n / 8;
+        let prediction = predicted_sample(&own, source, plane, x, y);
+        set_sample(working, plane, x, y, prediction, residual[n]);
     }
 }

@@ -1,6 +1,6 @@
 // Rebuilding the segment of an accepted delivery.
 ghost use Rattle.std.specs.Prelude.{◌≡◌, ℕ, ◌+◌, ◌-◌, ◌*◌, ◌<◌, ◌≤◌, true, length, drop, is_ok, Ok};
-ghost use Rattle.motion.specs.Cells.{ages_of, marks_of};
+ghost use Rattle.motion.specs.Cells.{Room, ages_of, marks_of};
 ghost use Rattle.motion.specs.Vectors.{vectors_of};
 ghost use Rattle.records.specs.Again.{records_of};
 ghost use Rattle.records.specs.Deliveries.{read};
@@ -8,14 +8,13 @@ ghost use Rattle.samples.specs.Prediction.{rounding_of};
 ghost use Rattle.rebuild.specs.Laws.{Independent};
 ghost use Rattle.rebuild.specs.Rebuilt.{accepted, count_of, first_cell, rebuilt, set_from, width_of};
 
-use crate::segment::rebuild_samples;
+use crate::rebuilder::Rebuilder;
 use deblocking::deblock_segment;
 use motion::cells::set_cells;
 use motion::vectors::Vector;
-use pictures::{Segment, Store};
+use pictures::Store;
 use records::checked::Delivery;
 use records::types::PictureKind;
-use samples::Rounding;
 use transform::Transform;
 
 // Sets the cells of a delivery's macroblocks in the three tables, from the first on, and no others: the part of each table from the segment's first
@@ -29,11 +28,9 @@ fn set_cells_from(
     vectors: &mut [Vector],
     marks: &mut [Option<u8>],
 )
-    requires columns { (0 < columns) × (length (records_of delivery) < 65535) }
-    requires finished { first + length (records_of delivery) ≤ length finished.now }
-    requires ages { first + length (records_of delivery) ≤ length ages.old }
-    requires vectors { first + length (records_of delivery) ≤ length vectors.old }
-    requires marks { first + length (records_of delivery) ≤ length marks.old }
+    requires some_columns { 0 < columns }
+    requires few { length (records_of delivery) < 65535 }
+    requires room { Room (first + length (records_of delivery)) finished.now ages.old vectors.old marks.old }
     ensures ages { ages.new ≡ set_from first (ages_of (records_of delivery.entry) (drop first finished.now)) ages.old }
     ensures vectors { vectors.new ≡ set_from first (vectors_of columns (records_of delivery.entry)) vectors.old }
     ensures marks { marks.new ≡ set_from first (marks_of (records_of delivery.entry)) marks.old }
@@ -48,54 +45,42 @@ fn set_cells_from(
     );
 }
 
-// Rebuilds the segment of an accepted delivery: sets its samples in the working store and its cells in the tables, and no others. The segment spans
-// the picture's columns.
-pub fn rebuild_segment<S: Store, T: Transform>(
-    finished: &S,
-    working: &mut S,
-    transform: &T,
-    segment: Segment,
-    rounding: Rounding,
-    kind: PictureKind,
-    bytes: &[u8],
-    finished_ages: &[u8],
-    ages: &mut [u8],
-    vectors: &mut [Vector],
-    marks: &mut [Option<u8>],
-)
-    requires bounds { (segment.left < segment.right) × ((segment.right ≤ 22) × ((segment.top < segment.bottom) × (segment.bottom ≤ 22))) }
-    requires accepted { is_ok (read kind (count_of segment) bytes.now) ≡ true }
-    requires finished { segment.bottom * width_of segment ≤ length finished_ages.now }
-    requires ages { segment.bottom * width_of segment ≤ length ages.old }
-    requires vectors { segment.bottom * width_of segment ≤ length vectors.old }
-    requires marks { segment.bottom * width_of segment ≤ length marks.old }
-    ensures samples { S.picture working.new ≡ rebuilt (T.meaning transform.now) segment (rounding_of rounding) (S.picture finished.now).sample (accepted kind (count_of segment) bytes.now) marks.new (S.picture working.old) }
-    ensures ages { ages.new ≡ set_from (first_cell segment) (ages_of (accepted kind (count_of segment) bytes.now) (drop (first_cell segment) finished_ages.now)) ages.old }
-    ensures vectors { vectors.new ≡ set_from (first_cell segment) (vectors_of (width_of segment) (accepted kind (count_of segment) bytes.now)) vectors.old }
-    ensures marks { marks.new ≡ set_from (first_cell segment) (marks_of (accepted kind (count_of segment) bytes.now)) marks.old }
-    ensures independent { Independent segment }
-{
-    let columns = (segment.right - segment.left) as usize;
-    let count = (segment.bottom - segment.top) as usize * columns;
-    let first = segment.top as usize * columns;
-    set_cells_from(
-        columns,
-        first,
-        Delivery::new(kind, count, bytes),
-        finished_ages,
-        ages,
-        vectors,
-        marks,
-    );
-    rebuild_samples(
-        finished,
-        working,
-        transform,
-        segment,
-        rounding,
-        vectors,
-        first,
-        Delivery::new(kind, count, bytes),
-    );
-    deblock_segment(working, marks, segment);
+impl<S: Store, T: Transform> Rebuilder<'_, '_, S, T> {
+    // Rebuilds the window's segment from an accepted delivery: sets its samples in the working store and its cells in the tables, and no others. The
+    // segment spans the picture's columns.
+    // (The tables stay four parameters: see `set_cells`.)
+    pub fn rebuild_segment(
+        &self,
+        working: &mut S,
+        kind: PictureKind,
+        bytes: &[u8],
+        finished_ages: &[u8],
+        ages: &mut [u8],
+        vectors: &mut [Vector],
+        marks: &mut [Option<u8>],
+    )
+        requires accepted { is_ok (read kind (count_of self.now.window.segment) bytes.now) ≡ true }
+        requires room { let s = self.now.window.segment in Room (s.bottom * width_of s) finished_ages.now ages.old vectors.old marks.old }
+        ensures samples { let w = self.now.window in S.picture working.new ≡ rebuilt (T.meaning self.now.transform.now) w.segment (rounding_of w.rounding) (S.picture w.finished.now).sample (accepted kind (count_of w.segment) bytes.now) marks.new (S.picture working.old) }
+        ensures ages { let s = self.now.window.segment in ages.new ≡ set_from (first_cell s) (ages_of (accepted kind (count_of s) bytes.now) (drop (first_cell s) finished_ages.now)) ages.old }
+        ensures vectors { let s = self.now.window.segment in vectors.new ≡ set_from (first_cell s) (vectors_of (width_of s) (accepted kind (count_of s) bytes.now)) vectors.old }
+        ensures marks { let s = self.now.window.segment in marks.new ≡ set_from (first_cell s) (marks_of (accepted kind (count_of s) bytes.now)) marks.old }
+        ensures independent { Independent self.now.window.segment }
+    {
+        let segment = self.window.segment;
+        let columns = (segment.right - segment.left) as usize;
+        let count = (segment.bottom - segment.top) as usize * columns;
+        let first = segment.top as usize * columns;
+        set_cells_from(
+            columns,
+            first,
+            Delivery::new(kind, count, bytes),
+            finished_ages,
+            ages,
+            vectors,
+            marks,
+        );
+        self.rebuild_samples(working, vectors, first, Delivery::new(kind, count, bytes));
+        deblock_segment(working, marks, segment);
+    }
 }

@@ -5,5 +5,6 @@
 pub mod block;
 pub mod delivered;
 pub mod macroblock;
+pub mod places;
+pub mod rebuilder;
 pub mod segment;
-pub mod source;

@@ -2,15 +2,16 @@
 ghost use Rattle.std.specs.Prelude.{◌≡◌, ℕ, ◌+◌, ◌*◌, ◌%◌, ◌<◌, ◌≤◌, List, ℤ, pos, slice_index_or};
 ghost use Rattle.pictures.specs.Pictures.{painted};
 ghost use Rattle.samples.specs.Prediction.{rounding_of};
-ghost use Rattle.rebuild.specs.Macroblocks.{coded_sample, coefficients_of, component_for, left_in, macroblock_at, macroblock_sample, plane_of, residual_of, source_for, top_in};
+ghost use Rattle.rebuild.specs.Macroblocks.{coded_sample, coefficients_of, component_for, macroblock_at, macroblock_sample, residual_of, source_for};
 
 use crate::block::rebuild_block;
-use crate::source::Source;
+use crate::places::MacroblockPlace;
+use crate::rebuilder::Rebuilder;
 use motion::vectors::Vector;
 use pictures::{Segment, Store, copy_segment};
 use records::is_coded;
 use records::types::{Block, Macroblock};
-use samples::{Rounding, chroma_component};
+use samples::chroma_component;
 use transform::{Transform, coefficients};
 
 // The component of a vector for a plane.
@@ -24,24 +25,17 @@ fn component_for(plane: u8, component: i8) -> i8
     }
 }
 
-// What a macroblock is predicted from in a plane.
-fn source_for(macroblock: &Macroblock, vector: Vector, plane: u8) -> Source
+// The vector that a macroblock is predicted by in a plane; an INTRA macroblock is predicted by none.
+fn source_for(macroblock: &Macroblock, vector: Vector, plane: u8) -> Option<Vector>
     ensures { result ≡ source_for macroblock.now vector plane }
 {
     match macroblock {
-        Macroblock::Intra { .. } => Source::Nothing,
-        _ => Source::Moved {
-            across: component_for(plane, vector.horizontal),
-            down: component_for(plane, vector.vertical),
-        },
+        Macroblock::Intra { .. } => None,
+        _ => Some(Vector {
+            horizontal: component_for(plane, vector.horizontal),
+            vertical: component_for(plane, vector.vertical),
+        }),
     }
-}
-
-// The results of the transform for a block.
-fn transformed<T: Transform>(transform: &T, quantizer: u8, block: &Block) -> [i16; 64]
-    ensures { (n k : ℕ) → n < 8 → k < 8 → slice_index_or result (8 * k + n) (pos 0) ≡ T.meaning transform.now (coefficients_of quantizer block.now) n k }
-{
-    transform.inverse(&coefficients(quantizer, block.dc, &block.levels))
 }
 
 // A block without coefficients adds zero.
@@ -51,106 +45,11 @@ fn no_residual() -> [i16; 64]
     [0; 64]
 }
 
-// The residual of a block; the transform is called only where there are coefficients.
-fn residual_of<T: Transform>(transform: &T, macroblock: &Macroblock, block: u8) -> [i16; 64]
-    requires { block < 6 }
-    ensures { (n k : ℕ) → n < 8 → k < 8 → slice_index_or result (8 * k + n) (pos 0) ≡ residual_of (T.meaning transform.now) macroblock.now block n k }
+// Copies the samples of the macroblock at a place, and no others.
+fn copy_macroblock<S: Store>(finished: &S, working: &mut S, place: MacroblockPlace)
+    ensures { S.picture working.new ≡ painted (macroblock_at place.column place.row) (S.picture finished.now).sample (S.picture working.old) }
 {
-    match macroblock {
-        Macroblock::Skipped => no_residual(),
-        Macroblock::Inter {
-            quantizer,
-            pattern,
-            blocks,
-            ..
-        } => {
-            if is_coded(*pattern, block) {
-                transformed(transform, *quantizer, &blocks[block as usize])
-            } else {
-                no_residual()
-            }
-        }
-        Macroblock::Intra {
-            quantizer,
-            blocks,
-            ..
-        } => transformed(transform, *quantizer, &blocks[block as usize]),
-    }
-}
-
-// The plane of a block of the macroblock in a column and a row, and where its samples begin.
-#[derive(Clone, Copy)]
-struct Place {
-    plane: u8,
-    left: usize,
-    top: usize,
-}
-
-fn place_of(column: u16, row: u16, block: u8) -> Place
-    requires { (block < 6) × ((column ≤ 22) × (row ≤ 22)) }
-    ensures plane { result.plane ≡ plane_of block }
-    ensures left { result.left ≡ left_in column block }
-    ensures top { result.top ≡ top_in row block }
-    ensures aligned { (result.left ≤ 1000) × ((result.left % 8 ≡ 0) × ((result.top ≤ 1000) × (result.top % 8 ≡ 0))) }
-{
-    let column = column as usize;
-    let row = row as usize;
-    if block < 4 {
-        let across = block as usize % 2;
-        let down = block as usize / 2;
-        Place {
-            plane: 0,
-            left: 16 * column + 8 * across,
-            top: 16 * row + 8 * down,
-        }
-    } else {
-        Place {
-            plane: block - 3,
-            left: 8 * column,
-            top: 8 * row,
-        }
-    }
-}
-
-// Sets the samples of a coded macroblock in a column and a row, and no others.
-fn rebuild_coded<S: Store, T: Transform>(
-    finished: &S,
-    working: &mut S,
-    transform: &T,
-    segment: Segment,
-    rounding: Rounding,
-    column: u16,
-    row: u16,
-    macroblock: &Macroblock,
-    vector: Vector,
-)
-    requires bounds { (segment.left < segment.right) × ((segment.right ≤ 22) × ((segment.top < segment.bottom) × (segment.bottom ≤ 22))) }
-    requires place { (column ≤ 22) × (row ≤ 22) }
-    ensures { S.picture working.new ≡ painted (macroblock_at column row) (coded_sample (T.meaning transform.now) segment (rounding_of rounding) (S.picture finished.now).sample macroblock.now vector) (S.picture working.old) }
-{
-    for block in 0..6 {
-        let place = place_of(column, row, block);
-        let source = source_for(macroblock, vector, place.plane);
-        let residual = residual_of(transform, macroblock, block);
-        rebuild_block(
-            finished,
-            working,
-            segment,
-            rounding,
-            source,
-            place.plane,
-            place.left,
-            place.top,
-            &residual,
-        );
-    }
-}
-
-// Copies the samples of the macroblock in a column and a row, and no others.
-fn copy_macroblock<S: Store>(finished: &S, working: &mut S, column: u16, row: u16)
-    requires { (column ≤ 22) × (row ≤ 22) }
-    ensures { S.picture working.new ≡ painted (macroblock_at column row) (S.picture finished.now).sample (S.picture working.old) }
-{
+    let MacroblockPlace { column, row } = place;
     copy_segment(
         finished,
         working,
@@ -163,26 +62,70 @@ fn copy_macroblock<S: Store>(finished: &S, working: &mut S, column: u16, row: u1
     );
 }
 
-// Sets the samples of the macroblock in a column and a row, and no others.
-pub fn rebuild_macroblock<S: Store, T: Transform>(
-    finished: &S,
-    working: &mut S,
-    transform: &T,
-    segment: Segment,
-    rounding: Rounding,
-    column: u16,
-    row: u16,
-    macroblock: &Macroblock,
-    vector: Vector,
-)
-    requires bounds { (segment.left < segment.right) × ((segment.right ≤ 22) × ((segment.top < segment.bottom) × (segment.bottom ≤ 22))) }
-    requires place { (column ≤ 22) × (row ≤ 22) }
-    ensures { S.picture working.new ≡ painted (macroblock_at column row) (macroblock_sample (T.meaning transform.now) segment (rounding_of rounding) (S.picture finished.now).sample macroblock.now vector) (S.picture working.old) }
+// The results of the transform for a block.
+fn transformed<T: Transform>(transform: &T, quantizer: u8, block: &Block) -> [i16; 64]
+    ensures { (n k : ℕ) → n < 8 → k < 8 → slice_index_or result (8 * k + n) (pos 0) ≡ T.meaning transform.now (coefficients_of quantizer block.now) n k }
+{
+    transform.inverse(&coefficients(quantizer, block.dc, &block.levels))
+}
+
+// The residual of a block; the transform is called only where there are coefficients.
+fn residual_of<T: Transform>(transform: &T, macroblock: &Macroblock, block: u8) -> [i16; 64]
+    requires { block < 6 }
+    ensures { (n k : ℕ) → n < 8 → k < 8 → slice_index_or result (8 * k + n) (pos 0) ≡ residual_of (T.meaning transform.now) macroblock.now block n k }
 {
     match macroblock {
-        Macroblock::Skipped => copy_macroblock(finished, working, column, row),
-        _ => rebuild_coded(
-            finished, working, transform, segment, rounding, column, row, macroblock, vector,
+        Macroblock::Inter {
+            quantizer,
+            pattern,
+            blocks,
+            ..
+        } if is_coded(*pattern, block) => transformed(
+            transform,
+            *quantizer,
+            &blocks[block as usize],
         ),
+        Macroblock::Intra {
+            quantizer,
+            blocks,
+            ..
+        } => transformed(transform, *quantizer, &blocks[block as usize]),
+        _ => no_residual(),
+    }
+}
+
+impl<S: Store, T: Transform> Rebuilder<'_, '_, S, T> {
+    // Sets the samples of a coded macroblock at a place, and no others.
+    fn rebuild_coded(
+        &self,
+        working: &mut S,
+        place: MacroblockPlace,
+        macroblock: &Macroblock,
+        vector: Vector,
+    )
+        ensures { let w = self.now.window in S.picture working.new ≡ painted (macroblock_at place.column place.row) (coded_sample (T.meaning self.now.transform.now) w.segment (rounding_of w.rounding) (S.picture w.finished.now).sample macroblock.now vector) (S.picture working.old) }
+    {
+        for block in 0..6 {
+            let at = place.block(block);
+            let source = source_for(macroblock, vector, at.plane);
+            let residual = residual_of(self.transform, macroblock, block);
+            rebuild_block(&self.window, working, source, at, &residual);
+        }
+    }
+
+    // Sets the samples of the macroblock at a place, and no others.
+    pub fn rebuild_macroblock(
+        &self,
+        working: &mut S,
+        place: MacroblockPlace,
+        macroblock: &Macroblock,
+        vector: Vector,
+    )
+        ensures { let w = self.now.window in S.picture working.new ≡ painted (macroblock_at place.column place.row) (macroblock_sample (T.meaning self.now.transform.now) w.segment (rounding_of w.rounding) (S.picture w.finished.now).sample macroblock.now vector) (S.picture working.old) }
+    {
+        match macroblock {
+            Macroblock::Skipped => copy_macroblock(self.window.finished, working, place),
+            _ => self.rebuild_coded(working, place, macroblock, vector),
+        }
     }
 }

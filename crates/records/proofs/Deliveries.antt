@@ -10,12 +10,7 @@ use Rattle.records.specs.Words.{words_of}
 use Rattle.records.specs.declared.types.Delivered.{Delivered}
 use Rattle.records.specs.Reading.{State, and_then}
 use Rattle.records.specs.Macroblocks.{after, macroblock_from}
-use Rattle.records.specs.Deliveries.{answered, delivered_of, end_from, intra_count, is_intra, macroblocks_from, read, whole_words}
-
--- the INTRA macroblocks among those that are read, beside so many before
-abbrev pub counted : {F : Type 0} → ℕ → Result (List Macroblock × State) F → Result (ℕ × State) F
-counted k (Ok q) = Ok (k + intra_count q.0, q.1)
-counted k (Err f) = Err f
+use Rattle.records.specs.Deliveries.{answered, counted, delivered_of, end_from, intra_count, is_intra, macroblocks_from, read, whole_words}
 
 counted_more : {F : Type 0} (k d : ℕ) (x : Macroblock) (r : Result (List Macroblock × State) F) → d ≡ cond (is_intra x) 1 0 → counted k (after (x ∷ []) r) ≡ counted (k + d) r
 unfolding intra_count
@@ -39,36 +34,24 @@ module _ (kind : PictureKind) (n m k : ℕ) (s : State) where
       let i : n - m ≡ suc (n - (m + 1)) = omega arith in
       rw (i, ← e) (counted_more k d x (macroblocks_from (n - (m + 1)) kind t (m + 1)) o)
 
--- from the count to the answer
-fault_of : {F : Type 0} (r : Result (List Macroblock × State) F) (f : F) → counted 0 r ≡ Err f → r ≡ Err f
-fault_of (Ok q) f e = let z : ◌≡◌ {A = ℕ} 0 1 = cc in absurd (omega arith)
-fault_of (Err g) f e = cc
+-- the answer by the count of the INTRA macroblocks, and what is told of it after the last word
+abbrev pub told : ℕ → List ℕ → Result (ℕ × State) SegmentFault → Result Delivered SegmentFault
+told n bytes r = and_then (λ f. f) r (λ q. and_then (λ f. f) (end_from n q.1) (λ _. Ok (record { words = length bytes / 4; intra = q.0 })))
 
-records_of : {F : Type 0} (r : Result (List Macroblock × State) F) (k : ℕ) (s : State) → counted 0 r ≡ Ok (k, s) → (ms : List Macroblock) × (r ≡ Ok (ms, s)) × (intra_count ms ≡ k)
-records_of (Err g) k s e = let z : ◌≡◌ {A = ℕ} 0 1 = cc in absurd (omega arith)
-records_of (Ok q) k s e =
-    let p : ◌≡◌ {A = ℕ × State} (0 + intra_count q.0, q.1) (k, s) = cc in
-    (q.0, ap (λ t. Ok (q.0, t)) (ap (λ (x : ℕ × State). x.1) p), omega (arith, ap (λ (x : ℕ × State). x.0) p))
+at_end : (bytes : List ℕ) (ms : List Macroblock) (e : Result (Unit {0}) SegmentFault)
+    → and_then (λ f. f) (and_then (λ f. f) e (λ _. Ok ms)) (λ xs. Ok (delivered_of bytes xs)) ≡ and_then (λ f. f) e (λ _. Ok (record { words = length bytes / 4; intra = 0 + intra_count ms }))
+at_end bytes ms (Ok u) = let none : intra_count ms ≡ 0 + intra_count ms = omega arith in ap (λ k. Ok (record { words = length bytes / 4; intra = k })) none
+at_end bytes ms (Err f) = refl
 
-module _ (kind : PictureKind) (n : ℕ) (bytes : List ℕ) where
-  abbrev pub Counts : Result (ℕ × State) SegmentFault → Type 0
-  Counts r = counted 0 (macroblocks_from n kind (words_of bytes, 0) 0) ≡ r
+by_count : (n : ℕ) (bytes : List ℕ) (w : Result (Unit {0}) WordFault) (r : Result (List Macroblock × State) SegmentFault)
+    → and_then (λ f. f) (and_then in_segment w (λ _. and_then (λ f. f) r (λ q. and_then (λ f. f) (end_from n q.1) (λ _. Ok q.0)))) (λ ms. Ok (delivered_of bytes ms)) ≡ and_then in_segment w (λ _. told n bytes (counted 0 r))
+by_count n bytes (Err f) r = refl
+by_count n bytes (Ok u) (Err f) = refl
+by_count n bytes (Ok u) (Ok q) = at_end bytes q.0 (end_from n q.1)
 
-  pub no_words : (f : WordFault) → ◌≡◌ {A = Result (Unit {0}) WordFault} (Err f) (whole_words bytes) → answered kind n bytes ≡ Err (in_segment f)
-  unfolding read
-  no_words f e = rw (← e)
-
-  pub faulty : (f : SegmentFault) → ◌≡◌ {A = Result (Unit {0}) WordFault} (Ok tt) (whole_words bytes) → Counts (Err f) → answered kind n bytes ≡ Err f
-  unfolding read
-  faulty f e h = rw (← e, fault_of _ f h)
-
-  pub left_over : (f : SegmentFault) (k : ℕ) (s : State) → ◌≡◌ {A = Result (Unit {0}) WordFault} (Ok tt) (whole_words bytes) → Counts (Ok (k, s)) → ◌≡◌ {A = Result (Unit {0}) SegmentFault} (Err f) (end_from n s) → answered kind n bytes ≡ Err f
-  unfolding read
-  left_over f k s e h o = let q = records_of _ k s h in rw (← e, q.1, ← o)
-
-  pub whole : (k : ℕ) (s : State) → ◌≡◌ {A = Result (Unit {0}) WordFault} (Ok tt) (whole_words bytes) → Counts (Ok (k, s)) → ◌≡◌ {A = Result (Unit {0}) SegmentFault} (Ok tt) (end_from n s) → answered kind n bytes ≡ Ok (record { words = length bytes / 4; intra = k })
-  unfolding read
-  whole k s e h o = let q = records_of _ k s h in rw (← e, q.1, ← o, q.2)
+pub answered_is : (kind : PictureKind) (n : ℕ) (bytes : List ℕ) → answered kind n bytes ≡ and_then in_segment (whole_words bytes) (λ _. told n bytes (counted 0 (macroblocks_from n kind (words_of bytes, 0) 0)))
+unfolding read
+answered_is kind n bytes = by_count n bytes (whole_words bytes) (macroblocks_from n kind (words_of bytes, 0) 0)
 
 -- an answer of counts says that the delivery is accepted
 counts_of : (r : Result (List Macroblock) SegmentFault) (on : List Macroblock → Delivered) (a : Result Delivered SegmentFault)

@@ -4,7 +4,7 @@ use Rattle.records.specs.declared.faults.MacroblockFault.{MacroblockFault}
 use Rattle.records.specs.declared.types.Macroblock.{Macroblock}
 use Rattle.records.specs.declared.types.PictureKind.{PictureKind}
 use Rattle.records.specs.Words.{words_of}
-use Rattle.records.specs.Reading.{State, and_then}
+use Rattle.records.specs.Reading.{State, and_then, with_state}
 use Rattle.records.specs.Macroblocks.{after, macroblock_from}
 use Rattle.records.specs.Deliveries.{end_from, macroblocks_from, read, whole_words}
 use Rattle.records.specs.Again.{records_in}
@@ -49,3 +49,17 @@ module _ (kind : PictureKind) (n m : ℕ) (s : State) (h : m < n) (ok : is_ok (m
       let i : n - m ≡ suc (n - (m + 1)) = omega arith in
       let q = after_ok x (macroblocks_from (n - (m + 1)) kind t (m + 1)) (rw (i, ← e) at ok) in
       (q.0, rw (i, ← e) q.1)
+
+-- a macroblock that is read of those left: it has no fault, and is the first of their records
+pub record One (kind : PictureKind) (n m : ℕ) (s : State) (n' m' : ℕ) (t : State) (r : Result Macroblock MacroblockFault) : Type 0 where
+  pub found : Macroblock
+  pub came : r ≡ Ok found
+  pub readable : is_ok (macroblocks_from (n' - m') kind t m') ≡ true
+  pub records : records_in (macroblocks_from (n - m) kind s m) ≡ found ∷ records_in (macroblocks_from (n' - m') kind t m')
+
+pub one_read : (kind : PictureKind) (n m : ℕ) (s : State) → is_ok (macroblocks_from (n - m) kind s m) ≡ true → (n' m' i : ℕ) (t : State) (r : Result Macroblock MacroblockFault)
+    → n' ≡ n → 0 < n - m → i ≡ m → m' ≡ m + 1 → with_state r t ≡ macroblock_from kind s i → One kind n m s n' m' t r
+one_read kind n m s ok n' m' i t (Ok x) same some here next e =
+    let q = next_one kind n m s (omega arith) ok x t (e ∙ ap (λ j. macroblock_from kind s j) here) in
+    record { found = x; came = refl; readable = rw (same, next) q.0; records = rw (same, next) q.1 }
+one_read kind n m s ok n' m' i t (Err f) same some here next e = absurd (never kind n m s (omega arith) ok f (e ∙ ap (λ j. macroblock_from kind s j) here))

@@ -1,6 +1,6 @@
 -- Accepted records are whole: one for each macroblock, and all INTRA in an INTRA picture.
-use Rattle.std.proofs.Common.{◌≡◌, ℕ, zero, suc, ◌+◌, ◌<◌, Bool, true, false, List, [], ◌∷◌, IfOk, Some, None, Ok, Err, Option, Result, refl, ap, arith}
-use Rattle.std.proofs.lemmas.Result.{IfOk-weaker}
+use Rattle.std.proofs.Common.{◌≡◌, ℕ, zero, suc, ◌+◌, ◌<◌, Bool, true, false, List, [], ◌∷◌, length, IfOk, Some, None, Ok, Err, Option, Result, refl, ap, arith}
+use Rattle.std.proofs.lemmas.Result.{IfOk-weaker, IfOk-at_ok}
 use Rattle.records.specs.declared.faults.MacroblockFault.{MacroblockFault}
 use Rattle.records.specs.declared.faults.SegmentFault.{SegmentFault}
 use Rattle.records.specs.declared.faults.Place.{Place}
@@ -75,3 +75,7 @@ reads_whole kind n bytes =
     made_then _ (whole_words bytes) _ (λ _. Unit {0}) _ (made_all _ _ (λ _. tt)) (λ _ _.
     made_then _ (macroblocks_from n kind (words_of bytes, 0) 0) _ (λ q. Whole kind n q.0) _ (records_whole n kind (words_of bytes, 0) 0) (λ q w.
     made_then _ (end_from n q.1) _ (λ _. Unit {0}) _ (made_all _ _ (λ _. tt)) (λ _ _. w)))
+
+-- records that were read are as many as the macroblocks
+pub all_there : (kind : PictureKind) (n : ℕ) (bytes : List ℕ) (records : List Macroblock) → read kind n bytes ≡ Ok records → length records ≡ n
+all_there kind n bytes records e = (IfOk-at_ok (Whole kind n) e (reads_whole kind n bytes)).counted

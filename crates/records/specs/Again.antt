@@ -10,4 +10,4 @@ records_in (Ok q) = q.0
 records_in (Err f) = []
 
 unfoldable pub records_of : Delivery → List Macroblock
-records_of d = records_in (macroblocks_from (d.count - d.next) d.kind (state_of d.words) d.next)
+records_of d = records_in (macroblocks_from (d.due.end - d.due.start) d.kind (state_of d.words) d.due.start)

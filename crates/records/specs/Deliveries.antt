@@ -48,6 +48,11 @@ unfoldable pub intra_count : List Macroblock → ℕ
 intra_count [] = 0
 intra_count (m ∷ ms) = cond (is_intra m) 1 0 + intra_count ms
 
+-- the INTRA macroblocks among those that are read, beside so many before
+abbrev pub counted : {F : Type 0} → ℕ → Result (List Macroblock × State) F → Result (ℕ × State) F
+counted k (Ok q) = Ok (k + intra_count q.0, q.1)
+counted k (Err f) = Err f
+
 -- what an accepted delivery is answered
 abbrev pub delivered_of : List ℕ → List Macroblock → Delivered
 delivered_of bytes records = record { words = length bytes / 4; intra = intra_count records }

@@ -6,3 +6,4 @@ pub mod Macroblocks
 pub mod Deliveries
 pub mod Again
 pub mod Shown
+pub mod Numbers

@@ -1,10 +1,10 @@
 // Reading a checked delivery again.
-ghost use Rattle.std.specs.Prelude.{◌≡◌, ℕ, ◌<◌, true, [], ◌∷◌, is_ok, Ok, MatchOption};
+ghost use Rattle.std.specs.Prelude.{◌≡◌, ℕ, ◌<◌, true, ◌∷◌, length, is_ok, Ok};
+ghost use Rattle.std.specs.Iterator.{YieldsFirst, item_count};
 ghost use Rattle.records.specs.Again.{records_of};
 ghost use Rattle.records.specs.Deliveries.{read};
 
 use crate::checked::Delivery;
-use crate::macroblock::read_macroblock;
 use crate::reader::Words;
 use crate::types::{Macroblock, PictureKind};
 
@@ -12,38 +12,27 @@ impl<'a> Delivery<'a> {
     // A delivery that `check_delivery` has accepted.
     pub fn new(kind: PictureKind, macroblocks: usize, bytes: &'a [u8]) -> Delivery<'a>
         requires { is_ok (read kind macroblocks bytes.now) ≡ true }
-        ensures { read kind macroblocks bytes.now ≡ Ok (records_of result) }
+        ensures records { read kind macroblocks bytes.now ≡ Ok (records_of result) }
+        ensures count { length (records_of result) ≡ macroblocks }
     {
         Delivery {
             words: Words::new(bytes),
             kind,
-            next: 0,
-            count: macroblocks,
+            due: 0..macroblocks,
         }
     }
+}
 
-    // The next macroblock, where one is left.
-    fn take_next(&mut self) -> Macroblock
-        requires { self.old.next < self.old.count }
-        ensures { records_of self.old ≡ result ∷ records_of self.new }
-    {
-        match read_macroblock(&mut self.words, self.kind, self.next) {
-            Ok(found) => {
-                self.next += 1;
-                found
-            }
-            Err(_) => unreachable(),
-        }
-    }
+impl<'a> Iterator for Delivery<'a> {
+    type Item = Macroblock;
+
+    ghost next_gives = { YieldsFirst records_of };
+
+    ghost remaining = { item_count records_of };
 
     // The next macroblock, as long as there is one.
-    pub fn next_macroblock(&mut self) -> Option<Macroblock>
-        ensures { MatchOption result (records_of self.old ≡ []) (λ m. records_of self.old ≡ m ∷ records_of self.new) }
-    {
-        if self.next < self.count {
-            Some(self.take_next())
-        } else {
-            None
-        }
+    fn next(&mut self) -> Option<Macroblock> {
+        let macroblock = self.due.next()?;
+        self.words.read_macroblock(self.kind, macroblock).ok()
     }
 }

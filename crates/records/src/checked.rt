@@ -4,15 +4,15 @@ ghost use Rattle.records.specs.Deliveries.{macroblocks_from};
 
 use crate::reader::Words;
 use crate::types::PictureKind;
+use std::ops::Range;
 
 // A delivery that was checked whole, to be read again macroblock by macroblock: that reading cannot fail.
 #[derive(Drop)]
 pub struct Delivery<'a> {
     pub(crate) words: Words<'a>,
     pub(crate) kind: PictureKind,
-    pub(crate) next: usize,
-    pub(crate) count: usize,
-    ghost small: { count < 2 ^ 64 },
-    ghost within: { next ≤ count },
-    ghost readable: { is_ok (macroblocks_from (count - next) kind (state_of words) next) ≡ true },
+    // the numbers of the macroblocks still to come
+    pub(crate) due: Range<usize>,
+    ghost within: { due.start ≤ due.end },
+    ghost readable: { is_ok (macroblocks_from (due.end - due.start) kind (state_of words) due.start) ≡ true },
 }

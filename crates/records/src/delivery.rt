@@ -1,10 +1,9 @@
 // Checking a whole delivery before anything rests on it.
 ghost use Rattle.std.specs.Prelude.{◌≡◌, ℕ, true, is_ok, IfOk, OnOk};
-ghost use Rattle.records.specs.Reading.{state_of};
-ghost use Rattle.records.specs.Deliveries.{Whole, answered, end_from, is_intra, read, whole_words};
+ghost use Rattle.records.specs.Reading.{state_of, with_state};
+ghost use Rattle.records.specs.Deliveries.{Whole, answered, counted, end_from, is_intra, macroblocks_from, read, whole_words};
 
 use crate::faults::{SegmentFault, WordFault};
-use crate::macroblock::read_macroblock;
 use crate::reader::Words;
 use crate::types::{Delivered, Macroblock, PictureKind};
 
@@ -12,10 +11,7 @@ impl Macroblock {
     pub fn is_intra(&self) -> bool
         ensures { result ≡ is_intra self.now }
     {
-        match self {
-            Macroblock::Intra { .. } => true,
-            _ => false,
-        }
+        matches!(self, Macroblock::Intra { .. })
     }
 }
 
@@ -30,18 +26,33 @@ fn check_bytes(bytes: &[u8]) -> Result<(), WordFault>
     }
 }
 
-// No word may be left after the last macroblock.
-fn check_end(words: &Words, macroblocks: usize) -> Result<(), SegmentFault>
-    ensures { result ≡ end_from macroblocks (state_of words.now) }
-{
-    if words.rest.len() < 4 {
-        Ok(())
-    } else {
-        Err(SegmentFault::LeftOver(words.place(macroblocks, 6)))
+impl<'a> Words<'a> {
+    // No word may be left after the last macroblock.
+    fn check_end(&self, macroblocks: usize) -> Result<(), SegmentFault>
+        ensures { result ≡ end_from macroblocks (state_of self.now) }
+    {
+        if self.rest.len() < 4 {
+            Ok(())
+        } else {
+            Err(SegmentFault::LeftOver(self.place(macroblocks, 6)))
+        }
+    }
+
+    // Reads so many macroblocks, and counts the INTRA ones.
+    fn count_intra(&mut self, kind: PictureKind, macroblocks: usize) -> Result<usize, SegmentFault>
+        ensures { with_state result (state_of self.new) ≡ counted 0 (macroblocks_from macroblocks kind (state_of self.old) 0) }
+    {
+        let mut intra = 0;
+        for macroblock in 0..macroblocks {
+            let found = self.read_macroblock(kind, macroblock)?;
+            intra += usize::from(found.is_intra());
+        }
+        Ok(intra)
     }
 }
 
 // Checks a delivery, in a picture of a kind, for a segment of so many macroblocks: the counts that it is answered, or the first fault.
+#[tactic(auto, using(crate::proofs::Deliveries::answered_is, crate::proofs::Wholes::reads_whole))]
 pub fn check_delivery(
     kind: PictureKind,
     macroblocks: usize,
@@ -53,12 +64,8 @@ pub fn check_delivery(
 {
     check_bytes(bytes)?;
     let mut words = Words::new(bytes);
-    let mut intra = 0;
-    for macroblock in 0..macroblocks {
-        let found = read_macroblock(&mut words, kind, macroblock)?;
-        intra += usize::from(found.is_intra());
-    }
-    check_end(&words, macroblocks)?;
+    let intra = words.count_intra(kind, macroblocks)?;
+    words.check_end(macroblocks)?;
     Ok(Delivered {
         words: bytes.len() / 4,
         intra,

@@ -5,7 +5,8 @@ ghost use Rattle.records.specs.declared.faults.MacroblockFault.TheVariants.{Bloc
 ghost use Rattle.records.specs.declared.faults.SegmentFault.TheVariants.{Macroblock as macroblock_in_segment, Word as word_in_segment};
 ghost use Rattle.records.specs.Faults.{block_refusal, macroblock_refusal, placed, segment_refusal, word_refusal};
 
-// Where a fault lies: the index of the word concerned, the macroblocks read whole before it, and the block due, or 6 when none is.
+// Where a fault lies: the index of the word concerned, the macroblocks read whole before it, and the block due. Where
+// none is due the block is 6, no `None`, since that number is part of what a refusal tells.
 #[derive(Clone, Copy)]
 pub struct Place {
     pub word: usize,

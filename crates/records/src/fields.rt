@@ -1,15 +1,8 @@
 // The fields of a word.
 ghost use Rattle.std.specs.Prelude.{◌≡◌, ℕ, ◌+◌, ◌<◌, ◌≤◌, [], ◌∷◌, length, MatchOption};
-ghost use Rattle.records.specs.Words.{bits, kind_number, twos_complement, unnamed, word_of, words_of};
+ghost use Rattle.records.specs.Words.{bits, unnamed, words_of};
 
 use crate::types::WordKind;
-
-// The word of four bytes, the first of which holds the top bits.
-fn word_of(a: u8, b: u8, c: u8, d: u8) -> u32
-    ensures { result ≡ word_of a b c d }
-{
-    u32::from_be_bytes([a, b, c, d])
-}
 
 // The first word of the bytes, and the bytes after it.
 pub(crate) fn split_word(bytes: &[u8]) -> Option<(u32, &[u8])>
@@ -19,37 +12,21 @@ pub(crate) fn split_word(bytes: &[u8]) -> Option<(u32, &[u8])>
     let [a, b, c, d, rest @ ..] = bytes else {
         return None;
     };
-    Some((word_of(*a, *b, *c, *d), rest))
+    // the first byte holds the top bits
+    Some((u32::from_be_bytes([*a, *b, *c, *d]), rest))
 }
 
 // The number that stands in a word's bits from `high` down to `low`.
 pub(crate) fn field(word: u32, high: u32, low: u32) -> u32
-    requires { (low ≤ high) × ((high < 32) × (high < low + 31)) }
+    requires order { low ≤ high }
+    requires top { high < 32 }
+    requires width { high < low + 31 }
     ensures { result ≡ bits high low word }
 {
     (word >> low) % (1 << (high + 1 - low))
 }
 
-// A byte read in two's complement.
-pub(crate) fn signed(byte: u8) -> i8
-    ensures { result ≡ twos_complement byte }
-{
-    byte.cast_signed()
-}
-
 impl WordKind {
-    // The kind's number, which stands in the top four bits.
-    pub(crate) fn number(self) -> u32
-        ensures { result ≡ kind_number self }
-    {
-        match self {
-            WordKind::Head => 1,
-            WordKind::Vector => 2,
-            WordKind::Dc => 3,
-            WordKind::Coefficient => 4,
-        }
-    }
-
     // The bits of a word of this kind that have no name; they must be zero.
     pub(crate) fn unnamed(self, word: u32) -> u32
         ensures { result ≡ unnamed self word }

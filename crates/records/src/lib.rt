@@ -9,6 +9,7 @@ pub mod delivery;
 pub mod faults;
 mod fields;
 pub mod macroblock;
+mod numbers;
 pub mod reader;
 pub mod show;
 mod take;

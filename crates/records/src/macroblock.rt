@@ -1,25 +1,12 @@
 // Reading a macroblock.
 ghost use Rattle.std.specs.Prelude.{◌≡◌, ℕ, true, false};
 ghost use Rattle.records.specs.Reading.{state_of, with_state};
-ghost use Rattle.records.specs.Macroblocks.{blocks_from, difference_from, difference_of, head_from, head_of, macroblock_from, rest_from, sound_head, type_of};
+ghost use Rattle.records.specs.Macroblocks.{blocks_from, difference_from, difference_of, head_from, head_of, macroblock_from, rest_from, sound_head};
 
-use crate::block::read_block;
 use crate::faults::{MacroblockFault, Place};
 use crate::fields::field;
 use crate::reader::Words;
 use crate::types::{Block, Difference, Head, Macroblock, MacroblockType, PictureKind, WordKind};
-
-// The type that a number stands for.
-fn type_of(number: u32) -> Option<MacroblockType>
-    ensures { result ≡ type_of number }
-{
-    match number {
-        0 => Some(MacroblockType::Skipped),
-        1 => Some(MacroblockType::Inter),
-        2 => Some(MacroblockType::Intra),
-        _ => None,
-    }
-}
 
 // Whether a type goes with the picture, and quantizer and pattern with the type.
 fn is_sound(kind: PictureKind, coding: MacroblockType, quantizer: u8, pattern: u8) -> bool
@@ -38,7 +25,7 @@ fn head_of(word: u32, kind: PictureKind, place: Place) -> Result<Head, Macrobloc
 {
     let quantizer = field(word, 25, 21) as u8;
     let pattern = field(word, 20, 15) as u8;
-    let Some(coding) = type_of(field(word, 27, 26)) else {
+    let Ok(coding) = MacroblockType::try_from(field(word, 27, 26)) else {
         return Err(MacroblockFault::Head(place));
     };
     if !is_sound(kind, coding, quantizer, pattern) {
@@ -51,18 +38,6 @@ fn head_of(word: u32, kind: PictureKind, place: Place) -> Result<Head, Macrobloc
     })
 }
 
-fn read_head(
-    words: &mut Words,
-    kind: PictureKind,
-    macroblock: usize,
-) -> Result<Head, MacroblockFault>
-    ensures { with_state result (state_of words.new) ≡ head_from kind (state_of words.old) macroblock }
-{
-    let place = words.place(macroblock, 6);
-    let word = words.take(WordKind::Head, place)?;
-    head_of(word, kind, place)
-}
-
 // The difference in a vector word.
 fn difference_of(word: u32) -> Difference
     ensures { result ≡ difference_of word }
@@ -73,75 +48,82 @@ fn difference_of(word: u32) -> Difference
     }
 }
 
-fn read_difference(words: &mut Words, macroblock: usize) -> Result<Difference, MacroblockFault>
-    ensures { with_state result (state_of words.new) ≡ difference_from (state_of words.old) macroblock }
-{
-    let place = words.place(macroblock, 6);
-    let word = words.take(WordKind::Vector, place)?;
-    Ok(difference_of(word))
-}
-
-// The six blocks of a macroblock.
-fn read_blocks(
-    words: &mut Words,
-    intra: bool,
-    pattern: u8,
-    macroblock: usize,
-) -> Result<[Block; 6], MacroblockFault>
-    ensures { with_state result (state_of words.new) ≡ blocks_from 6 intra pattern (state_of words.old) macroblock 0 }
-{
-    let mut gathered = [Block {
-        dc: None,
-        levels: [0; 64],
-    }; 6];
-    for block in 0..6u8 {
-        let found = read_block(words, intra, pattern, macroblock, block)?;
-        gathered[block as usize] = found;
+// The macroblock's number comes with each call: kept in `Words`, each step would owe in a clause of its own that it stays.
+impl<'a> Words<'a> {
+    fn read_head(&mut self, kind: PictureKind, macroblock: usize) -> Result<Head, MacroblockFault>
+        ensures { with_state result (state_of self.new) ≡ head_from kind (state_of self.old) macroblock }
+    {
+        let place = self.place(macroblock, 6);
+        let word = self.take(WordKind::Head, place)?;
+        head_of(word, kind, place)
     }
-    Ok(gathered)
-}
 
-// What follows a head.
-fn read_rest(
-    words: &mut Words,
-    head: Head,
-    macroblock: usize,
-) -> Result<Macroblock, MacroblockFault>
-    ensures { with_state result (state_of words.new) ≡ rest_from head.coding head.quantizer head.pattern (state_of words.old) macroblock }
-{
-    let quantizer = head.quantizer;
-    let pattern = head.pattern;
-    match head.coding {
-        MacroblockType::Skipped => Ok(Macroblock::Skipped),
-        MacroblockType::Inter => {
-            let difference = read_difference(words, macroblock)?;
-            let blocks = read_blocks(words, false, pattern, macroblock)?;
-            Ok(Macroblock::Inter {
-                quantizer,
-                pattern,
-                difference,
-                blocks,
-            })
+    fn read_difference(&mut self, macroblock: usize) -> Result<Difference, MacroblockFault>
+        ensures { with_state result (state_of self.new) ≡ difference_from (state_of self.old) macroblock }
+    {
+        let place = self.place(macroblock, 6);
+        let word = self.take(WordKind::Vector, place)?;
+        Ok(difference_of(word))
+    }
+
+    // The six blocks of a macroblock. With `array::try_from_fn` the proof did not close: after which words a step's error came, and which words are left,
+    // stayed open.
+    fn read_blocks(
+        &mut self,
+        intra: bool,
+        pattern: u8,
+        macroblock: usize,
+    ) -> Result<[Block; 6], MacroblockFault>
+        ensures { with_state result (state_of self.new) ≡ blocks_from 6 intra pattern (state_of self.old) macroblock 0 }
+    {
+        let mut gathered = [Block {
+            dc: None,
+            levels: [0; 64],
+        }; 6];
+        for block in 0..6u8 {
+            gathered[block as usize] = self.read_block(intra, pattern, macroblock, block)?;
         }
-        MacroblockType::Intra => {
-            let blocks = read_blocks(words, true, pattern, macroblock)?;
-            Ok(Macroblock::Intra {
-                quantizer,
-                pattern,
-                blocks,
-            })
+        Ok(gathered)
+    }
+
+    // What follows a head.
+    fn read_rest(&mut self, head: Head, macroblock: usize) -> Result<Macroblock, MacroblockFault>
+        ensures { with_state result (state_of self.new) ≡ rest_from head.coding head.quantizer head.pattern (state_of self.old) macroblock }
+    {
+        let quantizer = head.quantizer;
+        let pattern = head.pattern;
+        match head.coding {
+            MacroblockType::Skipped => Ok(Macroblock::Skipped),
+            MacroblockType::Inter => {
+                let difference = self.read_difference(macroblock)?;
+                let blocks = self.read_blocks(false, pattern, macroblock)?;
+                Ok(Macroblock::Inter {
+                    quantizer,
+                    pattern,
+                    difference,
+                    blocks,
+                })
+            }
+            MacroblockType::Intra => {
+                let blocks = self.read_blocks(true, pattern, macroblock)?;
+                Ok(Macroblock::Intra {
+                    quantizer,
+                    pattern,
+                    blocks,
+                })
+            }
         }
     }
-}
 
-// The next macroblock of a picture of a kind; so many were read before it.
-pub fn read_macroblock(
-    words: &mut Words,
-    kind: PictureKind,
-    macroblock: usize,
-) -> Result<Macroblock, MacroblockFault>
-    ensures { with_state result (state_of words.new) ≡ macroblock_from kind (state_of words.old) macroblock }
-{
-    let head = read_head(words, kind, macroblock)?;
-    read_rest(words, head, macroblock)
+    // The next macroblock of a picture of a kind; so many were read before it.
+    pub fn read_macroblock(
+        &mut self,
+        kind: PictureKind,
+        macroblock: usize,
+    ) -> Result<Macroblock, MacroblockFault>
+        ensures { with_state result (state_of self.new) ≡ macroblock_from kind (state_of self.old) macroblock }
+    {
+        let head = self.read_head(kind, macroblock)?;
+        self.read_rest(head, macroblock)
+    }
 }

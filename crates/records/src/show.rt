@@ -9,13 +9,13 @@ impl fmt::Display for Layer {
     ghost output = { λ l. Some (layer_text l) };
 
     fn fmt<W: fmt::Write>(&self, f: &mut fmt::Formatter<W>) -> fmt::Result {
-        match self {
-            Layer::Picture => f.write_str("picture"),
-            Layer::Words => f.write_str("words"),
-            Layer::Macroblock => f.write_str("macroblock"),
-            Layer::Block => f.write_str("block"),
-            Layer::Segment => f.write_str("segment"),
-        }
+        f.write_str(match self {
+            Layer::Picture => "picture",
+            Layer::Words => "words",
+            Layer::Macroblock => "macroblock",
+            Layer::Block => "block",
+            Layer::Segment => "segment",
+        })
     }
 }
 

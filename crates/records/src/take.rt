@@ -37,7 +37,7 @@ impl<'a> Words<'a> {
         let Some((word, rest)) = split_word(self.rest) else {
             return Err(WordFault::Missing(place));
         };
-        if field(word, 31, 28) != due.number() {
+        if field(word, 31, 28) != u32::from(due) {
             return Err(WordFault::Kind(place));
         }
         if due.unnamed(word) != 0 {

@@ -24,6 +24,12 @@ pub enum MacroblockType {
     Intra,
 }
 
+// A number that stands for nothing of the type that it was read as.
+#[derive(Clone, Copy)]
+pub struct UnknownNumber {
+    pub number: u32,
+}
+
 // A macroblock's head. The pattern's bit 5 - b is set where block b has coefficient words.
 #[derive(Clone, Copy)]
 pub struct Head {

@@ -1,5 +1,5 @@
 -- What is known of a delivery, by the answer to its questions.
-use Rattle.std.proofs.Common.{◌≡◌, ℕ, ◌<◌, Bool, true, List, ℤ, is_ok, Ok, Err, Result, sym, refl, ap, ◌∙◌, arith}
+use Rattle.std.proofs.Common.{◌≡◌, ℕ, ◌<◌, true, List, ℤ, is_ok, Ok, Err, Result, sym, refl, ap, ◌∙◌, arith}
 use Rattle.records.specs.declared.types.Delivered.{Delivered}
 use Rattle.records.specs.declared.types.Macroblock.{Macroblock}
 use Rattle.records.specs.Deliveries.{delivered_of, read}
@@ -8,7 +8,7 @@ use Rattle.rebuild.specs.Rebuilt.{accepted}
 use Rattle.rebuild.proofs.Cells.{accepted_is}
 use Rattle.calls.specs.declared.faults.PictureFault.{PictureFault}
 use Rattle.calls.specs.Held.{Held, fits}
-use Rattle.calls.specs.Questions.{judge_delivery, macroblocks_in}
+use Rattle.calls.specs.Questions.{macroblocks_in}
 use Rattle.calls.specs.Runs.{all_fit, control, delivering, open_to, setting_of, when_read}
 use Rattle.calls.proofs.Sizes.{same_setting}
 use Rattle.calls.proofs.Verdicts.{delivery_passed}
@@ -26,46 +26,40 @@ granted : (bytes : List ℕ) (v : Result (List Macroblock) PictureFault) (counts
 granted bytes (Ok records) counts e = (records, (refl, cc))
 granted bytes (Err g) counts e = absurd (let z : ◌≡◌ {A = ℕ} 0 1 = cc in omega arith)
 
-module _ (slip : Slip) (held : Held) (segment : ℕ) (bytes : List ℕ) (sized : Bool) (e : sized ≡ fits slip.format held) where
-  abbrev put : Result (List Macroblock) PictureFault
-  put = judge_delivery sized slip.format slip.kind slip.layout slip.accepted segment bytes
-
-  put_is : put ≡ judged slip held segment bytes
-  put_is = ap (λ b. judge_delivery b slip.format slip.kind slip.layout slip.accepted segment bytes) e
-
-  pub delivery_refused : (f : PictureFault) → Err f ≡ counted bytes put → judged slip held segment bytes ≡ Err f
-  delivery_refused f d = sym put_is ∙ refused bytes put f d
+module _ (slip : Slip) (held : Held) (segment : ℕ) (bytes : List ℕ) where
+  pub delivery_refused : (f : PictureFault) → Err f ≡ counted bytes (judged slip held segment bytes) → judged slip held segment bytes ≡ Err f
+  delivery_refused f d = refused bytes (judged slip held segment bytes) f d
 
   pub record Granted (counts : Delivered) : Type 0 where
-    pub fitting : fits slip.format held ≡ true
-    pub numbered : segment < segment_count slip.format slip.layout
-    pub readable : is_ok (read slip.kind (macroblocks_in slip.format slip.layout segment) bytes) ≡ true
-    pub judgement : judged slip held segment bytes ≡ Ok (accepted slip.kind (macroblocks_in slip.format slip.layout segment) bytes)
-    pub counts_are : counts ≡ delivered_of bytes (accepted slip.kind (macroblocks_in slip.format slip.layout segment) bytes)
+    pub fitting : fits slip.reel.format held ≡ true
+    pub numbered : segment < segment_count slip.reel.format slip.layout
+    pub readable : is_ok (read slip.kind (macroblocks_in slip.reel.format slip.layout segment) bytes) ≡ true
+    pub judgement : judged slip held segment bytes ≡ Ok (accepted slip.kind (macroblocks_in slip.reel.format slip.layout segment) bytes)
+    pub counts_are : counts ≡ delivered_of bytes (accepted slip.kind (macroblocks_in slip.reel.format slip.layout segment) bytes)
 
-  pub delivery_granted : (counts : Delivered) → Ok counts ≡ counted bytes put → Granted counts
+  pub delivery_granted : (counts : Delivered) → Ok counts ≡ counted bytes (judged slip held segment bytes) → Granted counts
   delivery_granted counts d =
-      let g = granted bytes put counts d in
-      let t = delivery_passed sized slip.format slip.kind slip.layout slip.accepted segment bytes g.0 g.1.0 in
-      let r : accepted slip.kind (macroblocks_in slip.format slip.layout segment) bytes ≡ g.0 = accepted_is slip.kind _ bytes g.0 t.was_read in
+      let g = granted bytes (judged slip held segment bytes) counts d in
+      let t = delivery_passed (fits slip.reel.format held) slip.reel.format slip.kind slip.layout slip.accepted segment bytes g.0 g.1.0 in
+      let r : accepted slip.kind (macroblocks_in slip.reel.format slip.layout segment) bytes ≡ g.0 = accepted_is slip.kind _ bytes g.0 t.was_read in
       record {
-        fitting = sym e ∙ t.fits;
+        fitting = t.fits;
         numbered = t.segments;
         readable = ap is_ok t.was_read;
-        judgement = sym put_is ∙ g.1.0 ∙ ap Ok (sym r);
+        judgement = g.1.0 ∙ ap Ok (sym r);
         counts_are = g.1.1 ∙ ap (delivered_of bytes) (sym r);
       }
 
 -- a delivery changes no size
 held_as_run : (meaning : List ℤ → ℕ → ℕ → ℤ) (slip : Slip) (held : Held) (segment : ℕ) (v : Result (List Macroblock) PictureFault)
     → held_after meaning slip segment v held
-    ≡ (when_read (setting_of slip.format meaning held) slip.rounding slip.layout segment v (record { accepted = slip.accepted; held = held })).held
+    ≡ (when_read (setting_of slip.reel.format meaning held) slip.rounding slip.layout segment v (record { accepted = slip.accepted; held = held })).held
 held_as_run meaning slip held segment (Ok records) = refl
 held_as_run meaning slip held segment (Err f) = refl
 
 pub size_delivered : (meaning : List ℤ → ℕ → ℕ → ℤ) (slip : Slip) (held : Held) (segment : ℕ) (bytes : List ℕ)
-    → fits slip.format (held_after meaning slip segment (judged slip held segment bytes) held) ≡ fits slip.format held
+    → fits slip.reel.format (held_after meaning slip segment (judged slip held segment bytes) held) ≡ fits slip.reel.format held
 size_delivered meaning slip held segment bytes =
-    let w = setting_of slip.format meaning held in
-    ap (fits slip.format) (held_as_run meaning slip held segment (judged slip held segment bytes))
-    ∙ ap all_fit (same_setting w (control slip.pictures slip.finished (open_to slip.kind slip.rounding slip.layout)) (record { accepted = slip.accepted; held = held }) (delivering segment bytes) refl)
+    let w = setting_of slip.reel.format meaning held in
+    ap (fits slip.reel.format) (held_as_run meaning slip held segment (judged slip held segment bytes))
+    ∙ ap all_fit (same_setting w (control slip.reel.pictures slip.reel.finished (open_to slip.kind slip.rounding slip.layout)) (record { accepted = slip.accepted; held = held }) (delivering segment bytes) refl)

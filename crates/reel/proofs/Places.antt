@@ -1,5 +1,5 @@
 -- Places of a picture and cells of its tables.
-use Rattle.std.proofs.Common.{◌≡◌, ℕ, ◌+◌, ◌*◌, ◌<◌, Bool, true, false, cond, Some, None, refl, mul_comm, arith}
+use Rattle.std.proofs.Common.{◌≡◌, ℕ, ◌+◌, ◌*◌, ◌<◌, false, mul_comm, arith}
 use Rattle.std.proofs.lemmas.Nat.{mul-add-lt}
 use Rattle.std.proofs.lemmas.Bool.Decides.{nat_tests}
 use Rattle.pictures.specs.Pictures.{inside}
@@ -12,12 +12,3 @@ no_plane columns rows p x y h = grind (arith, nat_tests)
 -- a macroblock has one of the cells
 pub cell_below : (columns rows column row : ℕ) → column < columns → row < rows → row * columns + column < columns * rows
 cell_below columns rows column row h i = omega (arith, mul-add-lt row columns column rows i h, mul_comm rows columns)
-
--- what was read of a table is its cell, and nothing is absent there
-pub read_cell : {X : Type 0} (b : Bool) (x y : X) → Some x ≡ cond b (Some y) None → x ≡ y
-read_cell true x y e = cc
-read_cell false x y e = absurd (let z : ◌≡◌ {A = ℕ} 0 1 = cc in omega arith)
-
-pub absent_cell : {X : Type 0} (b : Bool) (y : X) → None ≡ cond b (Some y) None → b ≡ false
-absent_cell true y e = absurd (let z : ◌≡◌ {A = ℕ} 0 1 = cc in omega arith)
-absent_cell false y e = refl

@@ -1,15 +1,18 @@
 -- What the calls answer and hand on, by the outcome of their questions.
-use Rattle.std.specs.Prelude.{ℕ, ◌+◌, ◌^◌, false, List, ℤ, Some, None, Ok, Err, Option, Result, bit_or}
+use Rattle.std.specs.Prelude.{ℕ, ◌+◌, ◌^◌, false, List, ℤ, Some, None, Ok, Err, Option, Result, bit_or, ◌==◌}
 use Rattle.records.specs.declared.types.Delivered.{Delivered}
 use Rattle.records.specs.declared.types.Macroblock.{Macroblock}
 use Rattle.records.specs.Deliveries.{delivered_of}
-use Rattle.records.specs.Reading.{and_then}
+use Rattle.records.specs.declared.types.PictureKind.{PictureKind}
+use Rattle.records.specs.declared.types.PictureKind.TheVariants as picture
+use Rattle.records.specs.Reading.{and_then, ask}
+use Rattle.samples.specs.declared.prediction.Rounding.{Rounding}
 use Rattle.pictures.specs.declared.formats.Format.{Format}
-use Rattle.pictures.specs.Segments.{segment_at, segment_count}
+use Rattle.pictures.specs.Segments.{segment_at, segment_count, sound}
 use Rattle.calls.specs.declared.faults.PictureFault.{PictureFault}
 use Rattle.calls.specs.declared.faults.PictureFault.TheVariants as fault
 use Rattle.calls.specs.Held.{Held, fits}
-use Rattle.calls.specs.Questions.{judge_delivery, kind_of, rounding_from}
+use Rattle.calls.specs.Questions.{judge_delivery, kind_of, passed, rounding_from, sound_kind}
 use Rattle.calls.specs.Effects.{picture_closed, segment_rebuilt}
 use Rattle.reel.specs.declared.reels.Reel.{Reel}
 use Rattle.reel.specs.declared.reels.Slip.{Slip}
@@ -19,14 +22,27 @@ abbrev pub new_reel : Option Format → Result Reel PictureFault
 new_reel (Some format) = Ok (record { format = format; pictures = 0; finished = None })
 new_reel None = Err fault.Format
 
+-- the kind and the rounding that two numbers stand for
+abbrev pub kind_read : ℕ → ℕ → Result (PictureKind × Rounding) PictureFault
+kind_read kind rounding = ask (sound_kind kind rounding) fault.Kind (Ok (kind_of kind, rounding_from rounding))
+
+-- the questions put to a layout
+abbrev pub judge_layout : Format → Option ℕ → PictureKind → ℕ → Result (Unit {0}) PictureFault
+judge_layout format finished picture.Intra layout = ask (sound format layout) fault.Layout passed
+judge_layout format None picture.Inter layout = Err fault.Unfinished
+judge_layout format (Some own) picture.Inter layout = ask (own == layout) fault.Layout passed
+
+-- the kind and the rounding of a picture that may be opened
+abbrev pub granted : ℕ → ℕ → Result (Unit {0}) PictureFault → Result (PictureKind × Rounding) PictureFault
+granted kind rounding (Ok _) = Ok (kind_of kind, rounding_from rounding)
+granted kind rounding (Err f) = Err f
+
 -- an opening counts one picture more; a refusal hands the reel back
 abbrev pub opened : Reel → ℕ → ℕ → ℕ → Result (Unit {0}) PictureFault → Result (Slip × ℕ) (Reel × PictureFault)
 opened reel kind rounding layout (Ok _) =
     Ok (
       record {
-        format = reel.format;
-        pictures = reel.pictures + 1;
-        finished = reel.finished;
+        reel = record { format = reel.format; pictures = reel.pictures + 1; finished = reel.finished };
         kind = kind_of kind;
         rounding = rounding_from rounding;
         layout = layout;
@@ -39,15 +55,13 @@ opened reel kind rounding layout (Err f) = Err (reel, f)
 
 -- the questions put to a delivery on a slip
 abbrev pub judged : Slip → Held → ℕ → List ℕ → Result (List Macroblock) PictureFault
-judged slip held segment bytes = judge_delivery (fits slip.format held) slip.format slip.kind slip.layout slip.accepted segment bytes
+judged slip held segment bytes = judge_delivery (fits slip.reel.format held) slip.reel.format slip.kind slip.layout slip.accepted segment bytes
 
 -- the slip with a segment accepted
 abbrev pub marked : Slip → ℕ → Slip
 marked slip segment =
     record {
-      format = slip.format;
-      pictures = slip.pictures;
-      finished = slip.finished;
+      reel = slip.reel;
       kind = slip.kind;
       rounding = slip.rounding;
       layout = slip.layout;
@@ -67,16 +81,16 @@ counted bytes read = and_then (λ f. f) read (λ records. Ok (delivered_of bytes
 -- and it rebuilds its segment, or changes nothing
 abbrev pub held_after : (List ℤ → ℕ → ℕ → ℤ) → Slip → ℕ → Result (List Macroblock) PictureFault → Held → Held
 held_after meaning slip segment (Ok records) held =
-    segment_rebuilt meaning (segment_at slip.format slip.layout segment) slip.rounding records held
+    segment_rebuilt meaning (segment_at slip.reel.format slip.layout segment) slip.rounding records held
 held_after meaning slip segment (Err f) held = held
 
 -- closing gives the resting reel, whose finished picture is the one that was open, and the marks; a refusal hands the slip back
 abbrev pub closed : Slip → Result (Unit {0}) PictureFault → Result (Reel × ℕ) (Slip × PictureFault)
-closed slip (Ok _) = Ok (record { format = slip.format; pictures = slip.pictures; finished = Some slip.layout }, slip.accepted)
+closed slip (Ok _) = Ok (record { format = slip.reel.format; pictures = slip.reel.pictures; finished = Some slip.layout }, slip.accepted)
 closed slip (Err f) = Err (slip, f)
 
 abbrev pub held_closed : Slip → Result (Unit {0}) PictureFault → Held → Held
-held_closed slip (Ok _) held = picture_closed slip.format slip.kind slip.layout slip.accepted held
+held_closed slip (Ok _) held = picture_closed slip.reel.format slip.kind slip.layout slip.accepted held
 held_closed slip (Err f) held = held
 
 -- a question is answered the value that it asks for

@@ -1,6 +1,8 @@
 // Delivering a segment.
 ghost use Rattle.std.specs.Prelude.{◌≡◌, ℕ, ◌*◌, ◌^◌, ◌<◌, ◌≤◌, true, is_ok, vec_len, bit_or};
+ghost use Rattle.motion.specs.Cells.{Room};
 ghost use Rattle.records.specs.Deliveries.{read};
+ghost use Rattle.motion.specs.Cells.{Room};
 ghost use Rattle.pictures.specs.Segments.{has_bit};
 ghost use Rattle.rebuild.specs.Rebuilt.{accepted, count_of, width_of};
 ghost use Rattle.calls.specs.Effects.{segment_rebuilt};
@@ -13,19 +15,12 @@ use crate::memory::Memory;
 use crate::reels::Slip;
 use calls::faults::PictureFault;
 use pictures::{Segment, Store};
-use rebuild::delivered::rebuild_segment;
+use prediction::window::Window;
+use rebuild::rebuilder::Rebuilder;
 use records::delivery::check_delivery;
 use records::types::{Delivered, PictureKind};
 use samples::Rounding;
 use transform::Transform;
-
-// Whether a segment's bit is set.
-pub(crate) fn has_mark(marks: u32, segment: u32) -> bool
-    requires { segment < 32 }
-    ensures { result ≡ has_bit marks segment }
-{
-    (marks >> segment) % 2 == 1
-}
 
 // The marks with a segment's bit set, and no other altered.
 fn with_mark(marks: u32, segment: u32) -> u32
@@ -52,12 +47,12 @@ fn rebuild_in<S: Store, T: Transform>(
     kind: PictureKind,
     bytes: &[u8],
 )
-    requires bounds { (segment.left < segment.right) × ((segment.right ≤ 22) × ((segment.top < segment.bottom) × (segment.bottom ≤ 22))) }
+    requires some_columns { segment.left < segment.right }
+    requires few_columns { segment.right ≤ 22 }
+    requires some_rows { segment.top < segment.bottom }
+    requires few_rows { segment.bottom ≤ 22 }
     requires accepted { is_ok (read kind (count_of segment) bytes.now) ≡ true }
-    requires finished { segment.bottom * width_of segment ≤ vec_len memory.old.finished_ages }
-    requires ages { segment.bottom * width_of segment ≤ vec_len memory.old.working_ages }
-    requires vectors { segment.bottom * width_of segment ≤ vec_len memory.old.vectors }
-    requires marks { segment.bottom * width_of segment ≤ vec_len memory.old.marks }
+    requires room { let m = memory.old in Room (segment.bottom * width_of segment) m.finished_ages.items m.working_ages.items m.vectors.items m.marks.items }
     ensures { held_in S.picture memory.new ≡ segment_rebuilt (T.meaning transform.now) segment rounding (accepted kind (count_of segment) bytes.now) (held_in S.picture memory.old) }
 {
     let Memory {
@@ -68,12 +63,14 @@ fn rebuild_in<S: Store, T: Transform>(
         vectors,
         marks,
     } = memory;
-    rebuild_segment(
+    let window = Window {
         finished,
-        working,
-        transform,
         segment,
         rounding,
+    };
+    let rebuilder = Rebuilder { window, transform };
+    rebuilder.rebuild_segment(
+        working,
         kind,
         bytes,
         finished_ages,
@@ -84,20 +81,33 @@ fn rebuild_in<S: Store, T: Transform>(
 }
 
 impl Slip {
-    // Puts a delivery its questions, where the memory has the reel's size or not: the counts that it is answered, or the first fault.
-    fn check(&self, sized: bool, segment: u32, bytes: &[u8]) -> Result<Delivered, PictureFault>
-        ensures { result ≡ counted bytes.now (judge_delivery sized self.now.format self.now.kind self.now.layout self.now.accepted segment bytes.now) }
+    // Whether a segment was accepted.
+    pub(crate) fn is_accepted(&self, segment: u32) -> bool
+        requires { segment < 32 }
+        ensures { result ≡ has_bit self.now.accepted segment }
     {
-        if !sized {
+        (self.accepted >> segment) % 2 == 1
+    }
+
+    // Puts a delivery its questions: the counts that it is answered, or the first fault.
+    fn check<S: Store>(
+        &self,
+        memory: &Memory<S>,
+        segment: u32,
+        bytes: &[u8],
+    ) -> Result<Delivered, PictureFault>
+        ensures { result ≡ counted bytes.now (judged self.now (held_in S.picture memory.now) segment bytes.now) }
+    {
+        if !memory.fits(self.reel.format) {
             return Err(PictureFault::Size);
         }
-        if segment >= self.format.segments(self.layout) {
+        if segment >= self.reel.format.segments(self.layout) {
             return Err(PictureFault::Number);
         }
-        if has_mark(self.accepted, segment) {
+        if self.is_accepted(segment) {
             return Err(PictureFault::Repeated);
         }
-        let rectangle = self.format.segment(self.layout, segment);
+        let rectangle = self.reel.format.segment(self.layout, segment);
         Ok(check_delivery(self.kind, macroblocks_in(rectangle), bytes)?)
     }
 
@@ -113,14 +123,14 @@ impl Slip {
         ensures slip { result.0 ≡ slip_after self segment (judged self (held_in S.picture memory.old) segment bytes.now) }
         ensures answer { result.1 ≡ counted bytes.now (judged self (held_in S.picture memory.old) segment bytes.now) }
         ensures memory { held_in S.picture memory.new ≡ held_after (T.meaning transform.now) self segment (judged self (held_in S.picture memory.old) segment bytes.now) (held_in S.picture memory.old) }
-        ensures format { result.0.format ≡ self.format }
-        ensures size { fits self.format (held_in S.picture memory.new) ≡ fits self.format (held_in S.picture memory.old) }
+        ensures format { result.0.reel.format ≡ self.reel.format }
+        ensures size { fits self.reel.format (held_in S.picture memory.new) ≡ fits self.reel.format (held_in S.picture memory.old) }
     {
-        let counts = match self.check(memory.fits(self.format), segment, bytes) {
+        let counts = match self.check(memory, segment, bytes) {
             Ok(counts) => counts,
             Err(fault) => return (self, Err(fault)),
         };
-        let rectangle = self.format.segment(self.layout, segment);
+        let rectangle = self.reel.format.segment(self.layout, segment);
         rebuild_in(
             memory,
             transform,

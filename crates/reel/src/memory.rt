@@ -7,7 +7,7 @@ use motion::vectors::Vector;
 use pictures::{Format, Store};
 
 // Two stores and four tables with a cell for each macroblock in raster order. The finished picture is the last one that was closed; the working
-// picture is the one that is open.
+// picture is the one that is open. (Tables side by side, and not one of cells: these six parts are what a caller brings, each with a size of its own.)
 #[derive(Drop)]
 pub struct Memory<S> {
     pub finished: S,

@@ -2,8 +2,8 @@
 ghost use Rattle.std.specs.Prelude.{◌≡◌, true, IfOk, MatchResult};
 ghost use Rattle.pictures.specs.Formats.{numbered};
 ghost use Rattle.calls.specs.Held.{fits};
-ghost use Rattle.calls.specs.Questions.{fits_layout, is_finished, judge_opening, kind_of, rounding_from, sound_kind};
-ghost use Rattle.reel.specs.Calls.{new_reel, opened};
+ghost use Rattle.calls.specs.Questions.{judge_opening};
+ghost use Rattle.reel.specs.Calls.{granted, judge_layout, kind_read, new_reel, opened};
 ghost use Rattle.reel.specs.Memories.{held_in};
 
 use crate::memory::Memory;
@@ -16,48 +16,14 @@ use samples::Rounding;
 // How many pictures a reel may open.
 const MOST_PICTURES: u16 = 60_000;
 
-// Whether kind and rounding are each 0 or 1, and rounding is 0 for INTRA.
-fn is_sound_kind(kind: u32, rounding: u32) -> bool
-    ensures { result ≡ sound_kind kind rounding }
+// The kind and the rounding that two numbers stand for. Each is 0 or 1, and an INTRA picture rounds halves up.
+fn read_kind(kind: u32, rounding: u32) -> Result<(PictureKind, Rounding), PictureFault>
+    ensures { result ≡ kind_read kind rounding }
 {
-    if kind >= 2 || rounding >= 2 {
-        return false;
-    }
-    kind != 0 || rounding == 0
-}
-
-// Whether a layout is sound for an INTRA picture, and that of the finished picture for an INTER one.
-fn fits_layout(format: Format, finished: Option<u32>, kind: u32, layout: u32) -> bool
-    ensures { result ≡ fits_layout format finished kind layout }
-{
-    if kind == 0 {
-        return format.is_sound(layout);
-    }
-    match finished {
-        Some(own) => own == layout,
-        None => false,
-    }
-}
-
-// The kind that 0 or 1 stands for.
-fn kind_of(number: u32) -> PictureKind
-    ensures { result ≡ kind_of number }
-{
-    if number == 0 {
-        PictureKind::Intra
-    } else {
-        PictureKind::Inter
-    }
-}
-
-// The rounding that 0 or 1 stands for.
-fn rounding_of(number: u32) -> Rounding
-    ensures { result ≡ rounding_from number }
-{
-    if number == 0 {
-        Rounding::Up
-    } else {
-        Rounding::Down
+    match (PictureKind::try_from(kind), Rounding::try_from(rounding)) {
+        (Ok(PictureKind::Intra), Ok(Rounding::Down)) => Err(PictureFault::Kind),
+        (Ok(kind), Ok(rounding)) => Ok((kind, rounding)),
+        _ => Err(PictureFault::Kind),
     }
 }
 
@@ -69,46 +35,48 @@ impl Reel {
         let Ok(number) = u8::try_from(format) else {
             return Err(PictureFault::Format);
         };
-        match Format::from_number(number) {
-            Some(format) => Ok(Reel {
-                format,
-                pictures: 0,
-                finished: None,
-            }),
-            None => Err(PictureFault::Format),
+        Ok(Reel {
+            format: Format::try_from(number)?,
+            pictures: 0,
+            finished: None,
+        })
+    }
+
+    // Whether a picture of a kind may have a layout: for INTRA a sound one, for INTER that of the finished picture, which has to be there.
+    fn check_layout(&self, kind: PictureKind, layout: u32) -> Result<(), PictureFault>
+        ensures { result ≡ judge_layout self.now.format self.now.finished kind layout }
+    {
+        match (kind, self.finished) {
+            (PictureKind::Intra, _) if self.format.is_sound(layout) => Ok(()),
+            (PictureKind::Inter, None) => Err(PictureFault::Unfinished),
+            (PictureKind::Inter, Some(own)) if own == layout => Ok(()),
+            _ => Err(PictureFault::Layout),
         }
     }
 
-    // Puts an opening its questions, where the memory has the reel's size or not.
-    fn check_opening(
+    // Puts an opening its questions: the kind and the rounding that it is granted, or the first fault.
+    fn check_opening<S: Store>(
         &self,
-        sized: bool,
+        memory: &Memory<S>,
         kind: u32,
         rounding: u32,
         layout: u32,
-    ) -> Result<(), PictureFault>
-        ensures { result ≡ judge_opening sized self.now.format self.now.pictures self.now.finished kind rounding layout }
+    ) -> Result<(PictureKind, Rounding), PictureFault>
+        ensures { result ≡ granted kind rounding (judge_opening (fits self.now.format (held_in S.picture memory.now)) self.now.format self.now.pictures self.now.finished kind rounding layout) }
     {
-        if !sized {
+        if !memory.fits(self.format) {
             return Err(PictureFault::Size);
         }
         if self.pictures >= MOST_PICTURES {
             return Err(PictureFault::Limit);
         }
-        if !is_sound_kind(kind, rounding) {
-            return Err(PictureFault::Kind);
-        }
-        if kind != 0 && self.finished.is_none() {
-            return Err(PictureFault::Unfinished);
-        }
-        if !fits_layout(self.format, self.finished, kind, layout) {
-            return Err(PictureFault::Layout);
-        }
-        Ok(())
+        let (kind, rounding) = read_kind(kind, rounding)?;
+        self.check_layout(kind, layout)?;
+        Ok((kind, rounding))
     }
 
     // Opens a picture of a kind (0 INTRA, 1 INTER), a rounding and a layout: gives the slip and the number of segments. A refusal hands the reel back.
-    // Nothing is written.
+    // Nothing is written. (Kind and rounding are the caller's numbers, since what stands for none is refused in its turn.)
     pub fn open<S: Store>(
         self,
         memory: &Memory<S>,
@@ -117,19 +85,21 @@ impl Reel {
         layout: u32,
     ) -> Result<(Slip, u32), (Reel, PictureFault)>
         ensures answer { result ≡ opened self kind rounding layout (judge_opening (fits self.format (held_in S.picture memory.now)) self.format self.pictures self.finished kind rounding layout) }
-        ensures back { MatchResult result (λ p. p.0.format ≡ self.format) (λ p. p.0 ≡ self) }
-        ensures fit { IfOk result (λ p. fits p.0.format (held_in S.picture memory.now) ≡ true) }
+        ensures back { MatchResult result (λ p. p.0.reel.format ≡ self.format) (λ p. p.0 ≡ self) }
+        ensures fit { IfOk result (λ p. fits p.0.reel.format (held_in S.picture memory.now) ≡ true) }
     {
-        if let Err(fault) = self.check_opening(memory.fits(self.format), kind, rounding, layout) {
-            return Err((self, fault));
-        }
+        let (kind, rounding) = match self.check_opening(memory, kind, rounding, layout) {
+            Ok(found) => found,
+            Err(fault) => return Err((self, fault)),
+        };
         let segments = self.format.segments(layout);
         let slip = Slip {
-            format: self.format,
-            pictures: self.pictures + 1,
-            finished: self.finished,
-            kind: kind_of(kind),
-            rounding: rounding_of(rounding),
+            reel: Reel {
+                pictures: self.pictures + 1,
+                ..self
+            },
+            kind,
+            rounding,
             layout,
             accepted: 0,
             spent: false,

@@ -7,71 +7,16 @@ ghost use Rattle.calls.specs.Questions.{in_grid, judge_age, judge_sample};
 ghost use Rattle.reel.specs.Calls.{shown};
 
 use crate::memory::{fits_store, fits_table};
-use crate::reels::{Reel, Slip};
+use crate::reels::Reel;
 use calls::faults::PictureFault;
 use pictures::{Format, Store};
-
-// A sample of the finished picture, where there is one.
-fn read_sample<S: Store>(
-    format: Format,
-    layout: Option<u32>,
-    finished: &S,
-    plane: u32,
-    across: u32,
-    down: u32,
-) -> Result<u8, PictureFault>
-    ensures { result ≡ shown (judge_sample (fits_store format (S.picture finished.now)) format layout plane across down) ((S.picture finished.now).sample plane across down) }
-{
-    if !fits_store(format, finished) {
-        return Err(PictureFault::Size);
-    }
-    if layout.is_none() {
-        return Err(PictureFault::Unfinished);
-    }
-    let Ok(plane) = u8::try_from(plane) else {
-        return Err(PictureFault::Outside);
-    };
-    match finished.read(plane, across as usize, down as usize) {
-        Some(value) => Ok(value),
-        None => Err(PictureFault::Outside),
-    }
-}
 
 // Whether the picture has a macroblock in a column and a row.
 fn has_cell(format: Format, column: u32, row: u32) -> bool
     ensures value { result ≡ in_grid format column row }
     ensures few { result ≡ true → (column < columns_of format) × (row < rows_of format) }
 {
-    if column >= u32::from(format.columns()) {
-        return false;
-    }
-    row < u32::from(format.rows())
-}
-
-// An age of the finished picture, where there is one.
-fn read_age(
-    format: Format,
-    layout: Option<u32>,
-    ages: &[u8],
-    column: u32,
-    row: u32,
-) -> Result<u8, PictureFault>
-    ensures { result ≡ shown (judge_age (fits_table format ages.now) format layout column row) (age_at format ages.now column row) }
-{
-    if !fits_table(format, ages) {
-        return Err(PictureFault::Size);
-    }
-    if layout.is_none() {
-        return Err(PictureFault::Unfinished);
-    }
-    if !has_cell(format, column, row) {
-        return Err(PictureFault::Outside);
-    }
-    let cell = row as usize * format.columns() as usize + column as usize;
-    match tables::read(ages, cell) {
-        Some(age) => Ok(age),
-        None => Err(PictureFault::Outside),
-    }
+    column < u32::from(format.columns()) && row < u32::from(format.rows())
 }
 
 impl Reel {
@@ -85,34 +30,34 @@ impl Reel {
     ) -> Result<u8, PictureFault>
         ensures { result ≡ shown (judge_sample (fits_store self.now.format (S.picture finished.now)) self.now.format self.now.finished plane across down) ((S.picture finished.now).sample plane across down) }
     {
-        read_sample(self.format, self.finished, finished, plane, across, down)
+        if !fits_store(self.format, finished) {
+            return Err(PictureFault::Size);
+        }
+        if self.finished.is_none() {
+            return Err(PictureFault::Unfinished);
+        }
+        let Ok(plane) = u8::try_from(plane) else {
+            return Err(PictureFault::Outside);
+        };
+        finished
+            .read(plane, across as usize, down as usize)
+            .ok_or(PictureFault::Outside)
     }
 
     // An age of the finished picture, of which the ages are given: by column and row.
     pub fn age(&self, ages: &[u8], column: u32, row: u32) -> Result<u8, PictureFault>
         ensures { result ≡ shown (judge_age (fits_table self.now.format ages.now) self.now.format self.now.finished column row) (age_at self.now.format ages.now column row) }
     {
-        read_age(self.format, self.finished, ages, column, row)
-    }
-}
-
-impl Slip {
-    // The same while a picture is open: the finished picture is the one before it.
-    pub fn sample<S: Store>(
-        &self,
-        finished: &S,
-        plane: u32,
-        across: u32,
-        down: u32,
-    ) -> Result<u8, PictureFault>
-        ensures { result ≡ shown (judge_sample (fits_store self.now.format (S.picture finished.now)) self.now.format self.now.finished plane across down) ((S.picture finished.now).sample plane across down) }
-    {
-        read_sample(self.format, self.finished, finished, plane, across, down)
-    }
-
-    pub fn age(&self, ages: &[u8], column: u32, row: u32) -> Result<u8, PictureFault>
-        ensures { result ≡ shown (judge_age (fits_table self.now.format ages.now) self.now.format self.now.finished column row) (age_at self.now.format ages.now column row) }
-    {
-        read_age(self.format, self.finished, ages, column, row)
+        if !fits_table(self.format, ages) {
+            return Err(PictureFault::Size);
+        }
+        if self.finished.is_none() {
+            return Err(PictureFault::Unfinished);
+        }
+        if !has_cell(self.format, column, row) {
+            return Err(PictureFault::Outside);
+        }
+        let cell = row as usize * self.format.columns() as usize + column as usize;
+        tables::read(ages, cell).ok_or(PictureFault::Outside)
     }
 }

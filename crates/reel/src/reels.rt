@@ -14,17 +14,34 @@ pub struct Reel {
     pub(crate) finished: Option<u32>,
 }
 
-// The slip of an open picture: what the reel said, how the picture was opened, and the segments that were accepted so far, by their bits. It has to be
-// handed in by a closing, which spends it: one that is not spent cannot be let go.
+// The slip of an open picture: the reel, which counts the picture already, how the picture was opened, and the segments that were accepted so far, by
+// their bits. It has to be handed in by a closing, which spends it: one that is not spent cannot be let go.
 pub struct Slip {
-    pub(crate) format: Format,
-    pub(crate) pictures: u16,
-    pub(crate) finished: Option<u32>,
+    pub(crate) reel: Reel,
     pub(crate) kind: PictureKind,
     pub(crate) rounding: Rounding,
     pub(crate) layout: u32,
     pub(crate) accepted: u32,
+    // A flag, and not a type for each state: that closing spends the slip by value and that its `drop` asks for it is the form the reel is to have.
     pub(crate) spent: bool,
+}
+
+impl Reel {
+    // The format of its pictures.
+    pub fn format(&self) -> Format
+        ensures { result ≡ self.now.format }
+    {
+        self.format
+    }
+}
+
+impl Slip {
+    // The reel while the picture is open. It is lent for the questions: its finished picture is the one before the open one.
+    pub fn reel(&self) -> &Reel
+        ensures { result.now ≡ self.now.reel }
+    {
+        &self.reel
+    }
 }
 
 impl Drop for Slip {
@@ -32,9 +49,7 @@ impl Drop for Slip {
         requires { self.spent ≡ true }
     {
         let Slip {
-            format: _,
-            pictures: _,
-            finished: _,
+            reel: _,
             kind: _,
             rounding: _,
             layout: _,

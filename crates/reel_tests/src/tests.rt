@@ -11,8 +11,7 @@ use transform::TwoPass;
 
 // A store of a format, of zeros.
 fn store(heap: Global, format: Format) -> Result<ByteStore, Fail> {
-    let bytes = vec![in heap; 0u8; format.samples()]?;
-    Ok(ByteStore::new(format.number(), bytes))
+    Ok(ByteStore::filled(heap, format, 0)?)
 }
 
 // One of two values.
@@ -75,7 +74,8 @@ fn refused_opening(reel: Reel, wrong: &mut Memory<ByteStore>) -> (Reel, u8) {
     }
 }
 
-// The number that a delivery over a memory is refused with, or 0, on a slip that is opened and handed in over another.
+// The number that a delivery over a memory is refused with, or 0, on a slip that is opened and handed in over another. (Reel and memories are passed
+// apart here and below, as the calls under test take them.)
 fn refused_delivery(
     reel: Reel,
     right: &mut Memory<ByteStore>,
@@ -143,10 +143,10 @@ fn told_open(reel: Reel, right: &mut Memory<ByteStore>, wrong: &Memory<ByteStore
     match reel.open(right, 1, 1, 1) {
         Ok((slip, _)) => {
             let told = [
-                told(slip.sample(&right.finished, 0, 127, 95)),
-                told(slip.sample(&wrong.finished, 0, 0, 0)),
-                told(slip.age(&right.finished_ages, 7, 5)),
-                told(slip.age(&wrong.finished_ages, 0, 0)),
+                told(slip.reel().sample(&right.finished, 0, 127, 95)),
+                told(slip.reel().sample(&wrong.finished, 0, 0, 0)),
+                told(slip.reel().age(&right.finished_ages, 7, 5)),
+                told(slip.reel().age(&wrong.finished_ages, 0, 0)),
             ];
             match slip.close(right) {
                 Ok(_) => told,

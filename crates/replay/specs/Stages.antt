@@ -3,22 +3,25 @@ use Rattle.std.specs.Prelude.{◌≡◌, ℕ, Bool, false, List, ℤ, Ok, Err, R
 use Rattle.pictures.specs.declared.formats.Format.{Format}
 use Rattle.calls.specs.Held.{Held}
 use Rattle.calls.specs.Runs.{Calling, Control, control, open_to, replies, resting, run, Setting, setting_of, State}
-use Rattle.records.specs.declared.types.Delivered.{Delivered as Counts}
 use Rattle.calls.specs.declared.answers.Answer.{Answer}
-use Rattle.calls.specs.declared.answers.Answer.TheVariants.{Opened, Delivered, Closed, Sample, Age, Refused}
+use Rattle.calls.specs.declared.answers.Answer.TheVariants.{Opened, Closed, Refused}
 use Rattle.calls.specs.declared.faults.PictureFault.{PictureFault}
 use Rattle.reel.specs.declared.reels.Reel.{Reel}
 use Rattle.reel.specs.declared.reels.Slip.{Slip}
 use Rattle.replay.specs.declared.Stage.{Stage}
 use Rattle.replay.specs.declared.Stage.TheVariants.{Resting, Open}
 
+-- the reel, at rest or while a picture is open
+abbrev pub reel_of : Stage → Reel
+reel_of (Resting reel) = reel
+reel_of (Open slip) = slip.reel
+
 abbrev pub format_of : Stage → Format
-format_of (Resting reel) = reel.format
-format_of (Open slip) = slip.format
+format_of stage = (reel_of stage).format
 
 abbrev pub control_of : Stage → Control
 control_of (Resting reel) = control reel.pictures reel.finished resting
-control_of (Open slip) = control slip.pictures slip.finished (open_to slip.kind slip.rounding slip.layout)
+control_of (Open slip) = control slip.reel.pictures slip.reel.finished (open_to slip.kind slip.rounding slip.layout)
 
 -- the accepted segments; a resting reel has none
 abbrev pub accepted_of : Stage → ℕ
@@ -45,17 +48,10 @@ abbrev pub close_turn : Result (Reel × ℕ) (Slip × PictureFault) → Stage ×
 close_turn (Ok p) = (Resting p.0, Closed p.1)
 close_turn (Err p) = (Open p.0, Refused p.1)
 
-abbrev pub deliver_answer : Result Counts PictureFault → Answer
-deliver_answer (Ok counts) = Delivered counts
-deliver_answer (Err f) = Refused f
-
-abbrev pub sample_answer : Result ℕ PictureFault → Answer
-sample_answer (Ok value) = Sample value
-sample_answer (Err f) = Refused f
-
-abbrev pub age_answer : Result ℕ PictureFault → Answer
-age_answer (Ok age) = Age age
-age_answer (Err f) = Refused f
+-- the answer to a call that leaves the stage as it is
+abbrev pub answer_to : Result Answer PictureFault → Answer
+answer_to (Ok answer) = answer
+answer_to (Err f) = Refused f
 
 -- What a list of calls gives, from a stage over a memory that held something, with a transform of a meaning: the stage and the memory are those after
 -- the run, the answers are the run's, and a slip that was not spent is not.

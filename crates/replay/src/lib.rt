@@ -6,7 +6,7 @@ ghost use Rattle.calls.specs.Held.{fits};
 ghost use Rattle.calls.specs.Laws.{LawOverRuns};
 ghost use Rattle.calls.specs.Runs.{call_of, calls_of, reply, step as stepped};
 ghost use Rattle.reel.specs.Memories.{held_in};
-ghost use Rattle.replay.specs.Stages.{Replayed, age_answer, close_turn, deliver_answer, format_of, open_turn, sample_answer, setting_at, spent_of, stage_in, state_of};
+ghost use Rattle.replay.specs.Stages.{Replayed, answer_to, close_turn, format_of, open_turn, reel_of, setting_at, spent_of, stage_in, state_of};
 
 use calls::answers::{Answer, Call};
 use calls::faults::PictureFault;
@@ -23,7 +23,19 @@ pub enum Stage {
     Open(Slip),
 }
 
-// What an opening and a closing give, as a stage and an answer.
+impl Stage {
+    // The reel, at rest or while a picture is open.
+    pub fn reel(&self) -> &Reel
+        ensures { result.now ≡ reel_of self.now }
+    {
+        match self {
+            Stage::Resting(reel) => reel,
+            Stage::Open(slip) => slip.reel(),
+        }
+    }
+}
+
+// What an opening gives, as a stage and an answer.
 fn open_turn(given: Result<(Slip, u32), (Reel, PictureFault)>) -> (Stage, Answer)
     ensures { result ≡ open_turn given }
 {
@@ -33,6 +45,7 @@ fn open_turn(given: Result<(Slip, u32), (Reel, PictureFault)>) -> (Stage, Answer
     }
 }
 
+// What a closing gives. It goes the other way, and so is no case of one function with the opening.
 fn close_turn(given: Result<(Reel, u32), (Slip, PictureFault)>) -> (Stage, Answer)
     ensures { result ≡ close_turn given }
 {
@@ -42,32 +55,11 @@ fn close_turn(given: Result<(Reel, u32), (Slip, PictureFault)>) -> (Stage, Answe
     }
 }
 
-// The answers to a delivery and to the two questions.
-fn deliver_answer(given: Result<Delivered, PictureFault>) -> Answer
-    ensures { result ≡ deliver_answer given }
+// The answer to a call that leaves the stage as it is: what it was granted, or its refusal.
+fn answer_to(given: Result<Answer, PictureFault>) -> Answer
+    ensures { result ≡ answer_to given }
 {
-    match given {
-        Ok(counts) => Answer::Delivered(counts),
-        Err(fault) => Answer::Refused(fault),
-    }
-}
-
-fn sample_answer(given: Result<u8, PictureFault>) -> Answer
-    ensures { result ≡ sample_answer given }
-{
-    match given {
-        Ok(value) => Answer::Sample(value),
-        Err(fault) => Answer::Refused(fault),
-    }
-}
-
-fn age_answer(given: Result<u8, PictureFault>) -> Answer
-    ensures { result ≡ age_answer given }
-{
-    match given {
-        Ok(age) => Answer::Age(age),
-        Err(fault) => Answer::Refused(fault),
-    }
+    given.unwrap_or_else(Answer::Refused)
 }
 
 // Makes a call where it is in turn.
@@ -91,40 +83,27 @@ pub fn step<S: Store, T: Transform>(
                 layout,
             },
         ) => { open_turn(reel.open(memory, *kind, *rounding, *layout)) }
-        (
-            Stage::Resting(reel),
-            Call::Sample {
-                plane,
-                across,
-                down,
-            },
-        ) => {
-            let answer = sample_answer(reel.sample(&memory.finished, *plane, *across, *down));
-            (Stage::Resting(reel), answer)
-        }
-        (Stage::Resting(reel), Call::Age { column, row }) => {
-            let answer = age_answer(reel.age(&memory.finished_ages, *column, *row));
-            (Stage::Resting(reel), answer)
-        }
         (Stage::Open(slip), Call::Deliver { segment, bytes }) => {
             let (slip, given) = slip.deliver(memory, transform, *segment, bytes);
-            (Stage::Open(slip), deliver_answer(given))
+            (Stage::Open(slip), answer_to(given.map(Answer::Delivered)))
         }
         (Stage::Open(slip), Call::Close) => close_turn(slip.close(memory)),
         (
-            Stage::Open(slip),
+            stage,
             Call::Sample {
                 plane,
                 across,
                 down,
             },
         ) => {
-            let answer = sample_answer(slip.sample(&memory.finished, *plane, *across, *down));
-            (Stage::Open(slip), answer)
+            let given = stage
+                .reel()
+                .sample(&memory.finished, *plane, *across, *down);
+            (stage, answer_to(given.map(Answer::Sample)))
         }
-        (Stage::Open(slip), Call::Age { column, row }) => {
-            let answer = age_answer(slip.age(&memory.finished_ages, *column, *row));
-            (Stage::Open(slip), answer)
+        (stage, Call::Age { column, row }) => {
+            let given = stage.reel().age(&memory.finished_ages, *column, *row);
+            (stage, answer_to(given.map(Answer::Age)))
         }
         (stage, _) => (stage, Answer::OutOfTurn),
     }
@@ -143,9 +122,8 @@ pub fn replay<S: Store, T: Transform>(
     ensures size { fits (format_of stage) (held_in S.picture memory.new) ≡ fits (format_of stage) (held_in S.picture memory.old) }
     ensures law { LawOverRuns }
 {
-    let mut answers = match Vec::with_capacity(heap, calls.len()) {
-        Ok(room) => room,
-        Err(_) => return Err(stage),
+    let Ok(mut answers) = Vec::with_capacity(heap, calls.len()) else {
+        return Err(stage);
     };
     let mut stage = stage;
     for call in calls {

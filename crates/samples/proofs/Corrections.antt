@@ -4,13 +4,10 @@ use Rattle.std.proofs.lemmas.Int.{ints, clamps}
 use Rattle.std.proofs.lemmas.Bool.Decides.{leb_tells}
 use Rattle.transform.specs.Signs.{with_sign}
 use Rattle.transform.specs.Sums.{brought}
+use Rattle.transform.proofs.Sizes.{abs_neg}
 use Rattle.samples.specs.Clipping.{clipped}
 use Rattle.samples.specs.Deblocking.{quotient, step_of, inner_of, outer_of, new_a, new_d}
 use Rattle.samples.specs.declared.deblocking.Four.{Four}
-
-abs_neg : (n : ℕ) → nat_abs (neg_ℤ (pos n)) ≡ n
-abs_neg zero = refl
-abs_neg (suc n) = refl
 
 abs_sign : (z : ℤ) (n : ℕ) → nat_abs (with_sign z n) ≡ n
 unfolding with_sign

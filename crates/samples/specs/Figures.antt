@@ -1,5 +1,6 @@
 -- Worked figures of the rules. Assumes nothing.
-use Rattle.std.specs.Prelude.{◌≡◌, ℕ, ◌<◌, true, false, ◌∷◌, replicate, ℤ, pos, negsuc, Some}
+use Rattle.std.specs.Prelude.{◌≡◌, ℕ, true, false, ◌∷◌, replicate, ℤ, pos, negsuc, Some}
+use Rattle.transform.specs.Blocks.{Everywhere}
 use Rattle.transform.specs.Coefficients.{block_coefficients}
 use Rattle.transform.specs.Inverse.{two_pass, direct}
 use Rattle.transform.specs.Levels.{dequantized}
@@ -12,8 +13,8 @@ use Rattle.samples.specs.declared.deblocking.Four.{Four}
 -- and whatever stands at the first place of the levels
 abbrev pub Level : ℕ → ℤ → Type 0
 Level code r =
-    (quantizer : ℕ) (first : ℤ) (n k : ℕ) → n < 8 → k < 8 → (two_pass (block_coefficients quantizer (Some code) (first ∷ replicate 63 (pos 0))) n k ≡ r)
-    × (direct (block_coefficients quantizer (Some code) (first ∷ replicate 63 (pos 0))) n k ≡ r)
+    (quantizer : ℕ) (first : ℤ) → Everywhere (λ n k. (two_pass (block_coefficients quantizer (Some code) (first ∷ replicate 63 (pos 0))) n k ≡ r)
+    × (direct (block_coefficients quantizer (Some code) (first ∷ replicate 63 (pos 0))) n k ≡ r))
 
 -- four samples over an edge
 abbrev pub over : ℕ → ℕ → ℕ → ℕ → Four

@@ -1,12 +1,17 @@
 -- Half-sample prediction of one sample. Assumes nothing.
-use Rattle.std.specs.Prelude.{ℕ, ◌+◌, ◌-◌, ◌/◌, Bool, true, false}
+use Rattle.std.specs.Prelude.{ℕ, ◌+◌, ◌-◌, ◌/◌, Bool, true, false, cond, ◌==◌, Result, Ok, Err}
 use Rattle.samples.specs.declared.prediction.Rounding.{Rounding}
 use Rattle.samples.specs.declared.prediction.Rounding.TheVariants.{Up, Down}
+use Rattle.samples.specs.declared.prediction.UnknownRounding.{UnknownRounding}
 
 -- the picture's rounding as a number: 0 rounds halves up, 1 down
 abbrev pub rounding_of : Rounding → ℕ
 rounding_of Up = 0
 rounding_of Down = 1
+
+-- the rounding that a number stands for: the others stand for none
+abbrev pub rounding_named : ℕ → Result Rounding UnknownRounding
+rounding_named number = cond (number == 0) (Ok Up) (cond (number == 1) (Ok Down) (Err (record { number = number })))
 
 -- midway between two samples, and between four
 abbrev pub between_two : ℕ → ℕ → ℕ → ℕ

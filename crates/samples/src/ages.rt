@@ -2,12 +2,19 @@
 ghost use Rattle.std.specs.Prelude.{◌≡◌};
 ghost use Rattle.samples.specs.Ages.{next_age};
 
+// The age of a macroblock that was never INTRA.
+pub const NEVER: u8 = 255;
+
+// The highest age of the others.
+const OLDEST: u8 = 250;
+
 // The age of a macroblock in the next picture: 0 if it is INTRA there, else one more, at most 250; 255 stands for never and remains.
 pub fn next_age(intra: bool, age: u8) -> u8
     ensures { result ≡ next_age intra age }
 {
-    if intra {
-        return 0;
+    match (intra, age) {
+        (true, _) => 0,
+        (false, NEVER) => NEVER,
+        (false, _) => age.saturating_add(1).min(OLDEST),
     }
-    if age == 255 { 255 } else { age.min(249) + 1 }
 }

@@ -1,6 +1,6 @@
 // The deblocking filter of four samples over an edge of two blocks. The rule has signed corrections; the code has their sizes and goes by
 // which side is greater, so that all of it is unsigned.
-ghost use Rattle.std.specs.Prelude.{◌≡◌, ◌+◌, ◌-◌, ◌≤◌, min, pos, ◌+ℤ◌, ◌-ℤ◌, unsigned_abs};
+ghost use Rattle.std.specs.Prelude.{◌≡◌, ◌+◌, ◌*◌, pos, ◌+ℤ◌, ◌-ℤ◌, unsigned_abs};
 ghost use Rattle.samples.specs.Clipping.{clipped};
 ghost use Rattle.samples.specs.Deblocking.{deblocked, inner_of, new_a, new_d, outer_of, strength_of};
 
@@ -16,8 +16,10 @@ const STRENGTHS: [[u8; 8]; 4] = [
 fn strength_of(quantizer: u8) -> u8
     ensures { result ≡ strength_of quantizer }
 {
-    if quantizer < 32 {
-        STRENGTHS[quantizer as usize / 8][quantizer as usize % 8]
+    let at = usize::from(quantizer);
+    // with `get` and `map_or` it stayed open that the result is the rule's
+    if at < 32 {
+        STRENGTHS[at / 8][at % 8]
     } else {
         0
     }
@@ -33,21 +35,30 @@ pub struct Four {
 }
 
 impl Four {
-    // How far the inner samples are corrected.
-    fn inner(self, strength: u8) -> u16
-        ensures value { result ≡ unsigned_abs (inner_of strength self) }
-        ensures bound { result ≤ 255 }
+    // What stands for a step up over the edge, and for a step down.
+    fn steps(self) -> (u16, u16)
+        ensures up { result.0 ≡ self.a + 4 * self.c }
+        ensures down { result.1 ≡ 4 * self.b + self.d }
     {
-        let size = (self.a as u16 + 4 * self.c as u16).abs_diff(4 * self.b as u16 + self.d as u16)
-            / 8;
-        size.saturating_sub(2 * size.saturating_sub(strength as u16))
+        let up = u16::from(self.a) + 4 * u16::from(self.c);
+        let down = 4 * u16::from(self.b) + u16::from(self.d);
+        (up, down)
+    }
+
+    // How far the inner samples are corrected.
+    fn inner(self, strength: u8) -> u8
+        ensures { result ≡ unsigned_abs (inner_of strength self) }
+    {
+        let (up, down) = self.steps();
+        let size = up.abs_diff(down) / 8;
+        size.saturating_sub(2 * size.saturating_sub(u16::from(strength))) as u8
     }
 
     // How far the outer samples are corrected.
     fn outer(self, strength: u8) -> u8
         ensures { result ≡ unsigned_abs (outer_of strength self) }
     {
-        (self.a.abs_diff(self.d) as u16 / 4).min(self.inner(strength) / 2) as u8
+        (self.a.abs_diff(self.d) / 4).min(self.inner(strength) / 2)
     }
 
     // The new `b` and `c`.
@@ -56,10 +67,11 @@ impl Four {
         ensures c { result.1 ≡ clipped (pos self.c -ℤ inner_of strength self) }
     {
         let by = self.inner(strength);
-        if 4 * self.b as u16 + self.d as u16 <= self.a as u16 + 4 * self.c as u16 {
-            (raised(self.b, by), lowered(self.c, by))
+        let (up, down) = self.steps();
+        if down <= up {
+            (self.b.saturating_add(by), self.c.saturating_sub(by))
         } else {
-            (lowered(self.b, by), raised(self.c, by))
+            (self.b.saturating_sub(by), self.c.saturating_add(by))
         }
     }
 
@@ -75,19 +87,6 @@ impl Four {
             (self.a + by, self.d - by)
         }
     }
-}
-
-fn raised(sample: u8, by: u16) -> u8
-    requires { by ≤ 255 }
-    ensures { result ≡ min (sample + by) 255 }
-{
-    (sample as u16 + by).min(255) as u8
-}
-
-fn lowered(sample: u8, by: u16) -> u8
-    ensures { result ≡ sample - by }
-{
-    (sample as u16).saturating_sub(by) as u8
 }
 
 // The four samples after the filter, at the strength for a macroblock's quantizer.

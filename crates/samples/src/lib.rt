@@ -8,9 +8,9 @@ mod deblocking;
 mod prediction;
 mod vectors;
 
-pub use ages::next_age;
+pub use ages::{NEVER, next_age};
 pub use deblocking::{Four, deblock};
-pub use prediction::{Rounding, add_residual, between_four, between_two, predict};
+pub use prediction::{Rounding, UnknownRounding, add_residual, between_four, between_two, predict};
 pub use vectors::{chroma_component, median, vector_component};
 
 // The definitions that the contracts of this crate and of the transforms cite give the worked figures.

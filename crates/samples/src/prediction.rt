@@ -1,7 +1,7 @@
 // The prediction of one sample, and its sum with a residual.
 ghost use Rattle.std.specs.Prelude.{◌≡◌, ◌≤◌, pos, ◌+ℤ◌};
 ghost use Rattle.samples.specs.Clipping.{clipped};
-ghost use Rattle.samples.specs.Prediction.{between_four, between_two, predicted, rounding_of};
+ghost use Rattle.samples.specs.Prediction.{between_four, between_two, predicted, rounding_named, rounding_of};
 
 // A picture's rounding of halves: up is the number 0, down the number 1.
 #[derive(Clone, Copy)]
@@ -10,30 +10,50 @@ pub enum Rounding {
     Down,
 }
 
-impl Rounding {
-    fn number(self) -> u16
-        ensures value { result ≡ rounding_of self }
-        ensures bound { result ≤ 1 }
-    {
-        match self {
+// A number that stands for no rounding.
+#[derive(Clone, Copy)]
+pub struct UnknownRounding {
+    pub number: u32,
+}
+
+impl From<Rounding> for u16 {
+    ghost from_gives = { λ rounding number. (number ≡ rounding_of rounding) × (number ≤ 1) };
+
+    fn from(rounding: Rounding) -> u16 {
+        match rounding {
             Rounding::Up => 0,
             Rounding::Down => 1,
         }
     }
 }
 
-// Midway between two neighbours.
+impl TryFrom<u32> for Rounding {
+    type Error = UnknownRounding;
+
+    ghost try_from_gives = { λ number rounding. rounding ≡ rounding_named number };
+
+    fn try_from(number: u32) -> Result<Rounding, UnknownRounding> {
+        match number {
+            0 => Ok(Rounding::Up),
+            1 => Ok(Rounding::Down),
+            _ => Err(UnknownRounding { number }),
+        }
+    }
+}
+
+// Midway between two neighbours. (The operands of this and the rules below stay apart, as the rules have them.)
 pub fn between_two(rounding: Rounding, a: u8, b: u8) -> u8
     ensures { result ≡ between_two (rounding_of rounding) a b }
 {
-    ((a as u16 + b as u16 + 1 - rounding.number()) / 2) as u8
+    ((u16::from(a) + u16::from(b) + 1 - u16::from(rounding)) / 2) as u8
 }
 
 // In the middle of four neighbours.
 pub fn between_four(rounding: Rounding, a: u8, b: u8, c: u8, d: u8) -> u8
     ensures { result ≡ between_four (rounding_of rounding) a b c d }
 {
-    ((a as u16 + b as u16 + c as u16 + d as u16 + 2 - rounding.number()) / 4) as u8
+    let sum = u16::from(a) + u16::from(b) + u16::from(c) + u16::from(d);
+    ((sum + 2 - u16::from(rounding)) / 4) as u8
 }
 
 // The prediction where half steps lead across and down. `a` lies at the place itself, `b` right of it, `c` below it, `d` below `b`.

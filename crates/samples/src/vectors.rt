@@ -1,7 +1,8 @@
 // Motion vectors, a component at a time, in half samples.
 ghost use Rattle.std.specs.Prelude.{◌≡◌, ◌≤◌, pos, negsuc, ◌≤ℤ◌};
-ghost use Rattle.transform.specs.Signs.{with_sign};
 ghost use Rattle.samples.specs.Vectors.{chroma_of, chroma_size, median_of, vector_of, wrapped};
+
+use transform::with_sign;
 
 // The middle one of three.
 pub fn median(a: i8, b: i8, c: i8) -> i8
@@ -33,21 +34,10 @@ fn chroma_size(size: u8) -> u8
     2 * (size / 4) + u8::from(size % 4 != 0)
 }
 
-// A size with the sign of a component.
-fn with_sign(component: i8, size: u8) -> i8
-    requires { size ≤ 127 }
-    ensures { result ≡ with_sign component size }
-{
-    if component < 0 {
-        -(size as i8)
-    } else {
-        size as i8
-    }
-}
-
 // The chroma component that goes with a luma one.
 pub fn chroma_component(luma: i8) -> i8
     ensures { result ≡ chroma_of luma }
 {
-    with_sign(luma, chroma_size(luma.unsigned_abs()))
+    let size = chroma_size(luma.unsigned_abs());
+    with_sign(luma, u32::from(size)) as i8
 }

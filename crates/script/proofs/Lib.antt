@@ -1,4 +1,3 @@
 pub mod Spans
 pub mod Digits
 pub mod Pairs
-pub mod Counts

@@ -1,7 +1,7 @@
 -- The bytes up to one that passes a test.
-use Rattle.std.proofs.Common.{◌≡◌, ℕ, suc, ◌+◌, ◌<◌, ◌≤◌, Bool, true, false, cond, List, [], ◌∷◌, length, get_or, take, drop, refl, ap, arith}
-use Rattle.std.proofs.lemmas.List.{drop_all, drop_more}
-use Rattle.script.specs.Fields.{up_to, from_on}
+use Rattle.std.proofs.Common.{◌≡◌, ℕ, zero, suc, ◌<◌, ◌≤◌, Bool, true, false, cond, List, [], ◌∷◌, length, take, drop, refl, ap, arith}
+use Rattle.std.specs.List.{AllWithin, HoldsAt}
+use Rattle.script.specs.Fields.{begun_by, from_on, is_line_feed, lines_of, up_to}
 
 module _ (stop : ℕ → Bool) where
   -- a list is what comes before, and then the rest
@@ -29,21 +29,13 @@ module _ (stop : ℕ → Bool) where
   up_to_le [] = omega arith
   up_to_le (b ∷ bs) = shorter b bs (stop b) (up_to_le bs)
 
-  -- so far none has passed; the next one does, or does not, or there is none
-  abbrev pub Passed : List ℕ → ℕ → Type 0
-  Passed bs i = length (up_to stop bs) ≡ i + length (up_to stop (drop i bs))
-
-  pub found : (bs : List ℕ) (i : ℕ) → i < length bs → Passed bs i → stop (get_or bs i 0) ≡ true → i ≡ length (up_to stop bs)
-  found bs i l h e = let d = drop_more bs i 0 l in let z : length (up_to stop (drop i bs)) ≡ 0 = rw (d, e) in omega arith
-
-  pub further : (bs : List ℕ) (i : ℕ) → i < length bs → Passed bs i → stop (get_or bs i 0) ≡ false → Passed bs (i + 1)
-  further bs i l h e =
-      let d = drop_more bs i 0 l in
-      let z : length (up_to stop (drop i bs)) ≡ suc (length (up_to stop (drop (i + 1) bs))) = rw (d, e) in
-      omega arith
-
-  pub nowhere : (bs : List ℕ) (i : ℕ) → length bs ≤ i → i ≤ length bs → Passed bs i → length bs ≡ length (up_to stop bs)
-  nowhere bs i l m h = let z : length (up_to stop (drop i bs)) ≡ 0 = rw (drop_all i bs l) in omega arith
+  -- the first place that passes, as it is found from the front
+  pub first_place : (bs : List ℕ) (i : ℕ) → i ≤ length bs → AllWithin (λ b. stop b ≡ false) bs 0 i → (i < length bs → HoldsAt (λ b. stop b ≡ true) bs i) → length (up_to stop bs) ≡ i
+  first_place [] i l none here = omega (arith, l)
+  first_place (b ∷ bs) zero l none here = rw (here (omega arith) 0) refl
+  first_place (b ∷ bs) (suc i) l none here =
+      rw (none 0 0 (omega arith) (omega arith))
+      (ap suc (first_place bs i (omega (arith, l)) (λ k d low high. none (suc k) d (omega arith) (omega (arith, high))) (λ below d. here (omega (arith, below)) d)))
 
   rest_by_test : (b : ℕ) (bs : List ℕ) (t : Bool) → length (from_on stop bs) ≤ length bs → length (cond t (b ∷ bs) (from_on stop bs)) ≤ length (b ∷ bs)
   rest_by_test b bs true h = omega arith
@@ -52,3 +44,18 @@ module _ (stop : ℕ → Bool) where
   pub from_on_le : (bs : List ℕ) → length (from_on stop bs) ≤ length bs
   from_on_le [] = omega arith
   from_on_le (b ∷ bs) = rest_by_test b bs (stop b) (from_on_le bs)
+
+-- the first line, and then the others
+begun : (b : ℕ) (bs : List ℕ) (t : Bool) → lines_of bs ≡ up_to is_line_feed bs ∷ lines_of (drop 1 (from_on is_line_feed bs))
+    → cond t ([] ∷ lines_of bs) (begun_by b (lines_of bs)) ≡ cond t [] (b ∷ up_to is_line_feed bs) ∷ lines_of (drop 1 (cond t (b ∷ bs) (from_on is_line_feed bs)))
+begun b bs true e = refl
+begun b bs false e = ap (begun_by b) e
+
+alone : (b : ℕ) (t : Bool) → cond t ([] ∷ []) (begun_by b []) ≡ cond t [] (b ∷ []) ∷ lines_of (drop 1 (cond t (b ∷ []) []))
+alone b true = refl
+alone b false = refl
+
+pub first_line : (bs : List ℕ) → 0 < length bs → lines_of bs ≡ up_to is_line_feed bs ∷ lines_of (drop 1 (from_on is_line_feed bs))
+first_line [] some = absurd (omega (arith, some))
+first_line (b ∷ []) some = alone b (is_line_feed b)
+first_line (b ∷ c ∷ bs) some = begun b (c ∷ bs) (is_line_feed b) (first_line (c ∷ bs) (omega arith))

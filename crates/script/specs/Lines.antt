@@ -1,26 +1,30 @@
 -- What a line of a script says.
-use Rattle.std.specs.Prelude.{ℕ, cond, List, [], length, Some, None, vec_items, codes, Option, ◌==◌}
+use Rattle.std.specs.Prelude.{◌≡◌, ℕ, cond, List, [], length, Some, None, Ok, Err, Result, vec_items, codes, Option, ◌==◌, ⊤}
 use Rattle.std.specs.Str.{bytes_eq}
 use Rattle.records.specs.declared.types.PictureKind.{PictureKind}
 use Rattle.records.specs.declared.types.PictureKind.TheVariants as picture
-use Rattle.script.specs.declared.fields.Stop.TheVariants as stop
-use Rattle.script.specs.declared.line.Line.{Line}
-use Rattle.script.specs.declared.line.Line.TheVariants as line
+use Rattle.script.specs.declared.line.LineError.{LineError}
+use Rattle.script.specs.declared.line.LineError.TheVariants.{OutOfMemory, Wrong}
 use Rattle.script.specs.declared.line.Mistake.{Mistake}
 use Rattle.script.specs.declared.line.Mistake.TheVariants as mistake
-use Rattle.script.specs.Fields.{after_field, field_of, stops_at, up_to}
+use Rattle.script.specs.declared.line.Records.{Records}
+use Rattle.script.specs.Fields.{after_field, field_of, is_hash, up_to}
 use Rattle.script.specs.Numbers.{number_of, pairs_of}
 
--- a line by its meaning
-pub data Meaning : Type 0 where
-  blank : Meaning
-  records : (kind : PictureKind) (macroblocks : ℕ) (bytes : List ℕ) → Meaning
-  wrong : Mistake → Meaning
+-- bytes to be read as records, by their meaning
+pub record Meaning : Type 0 where
+  pub kind : PictureKind
+  pub macroblocks : ℕ
+  pub bytes : List ℕ
 
-abbrev pub meant : Line → Meaning
-meant line.Blank = blank
-meant (line.Records kind macroblocks bytes) = records kind macroblocks (vec_items bytes)
-meant (line.Wrong m) = wrong m
+abbrev pub meant : Records → Meaning
+meant r = record { kind = r.kind; macroblocks = r.macroblocks; bytes = vec_items r.bytes }
+
+-- unless memory failed, a reader gives what a line says, or what is wrong with it
+abbrev pub Says : {X Y : Type 0} → (X → Y) → Result X LineError → Result Y Mistake → Type 0
+Says view (Ok x) due = due ≡ Ok (view x)
+Says view (Err (Wrong m)) due = due ≡ Err m
+Says view (Err OutOfMemory) due = ⊤
 
 abbrev pub kind_of : List ℕ → Option PictureKind
 kind_of field = cond (bytes_eq field (codes "0")) (Some picture.Intra) (cond (bytes_eq field (codes "1")) (Some picture.Inter) None)
@@ -30,21 +34,34 @@ abbrev pub bytes_of : List ℕ → Option (List ℕ)
 bytes_of field = cond (length field == 0) None (cond (bytes_eq field (codes "-")) (Some []) (pairs_of field))
 
 -- goes on with a value, or tells the mistake
-abbrev pub given : {X : Type 0} → Option X → Mistake → (X → Meaning) → Meaning
-given None m on = wrong m
+abbrev pub given : {X Y : Type 0} → Option X → Mistake → (X → Result Y Mistake) → Result Y Mistake
+given None m on = Err m
 given (Some x) m on = on x
 
+-- no field is left
+abbrev pub end_of : List ℕ → Result (Unit {0}) Mistake
+end_of fields = cond (length (field_of fields) == 0) (Ok tt) (Err mistake.Fields)
+
+-- a value, where no field is left after it
+abbrev pub ended : {X : Type 0} → List ℕ → X → Result X Mistake
+ended rest x = cond (length (field_of rest) == 0) (Ok x) (Err mistake.Fields)
+
 -- `records KIND MACROBLOCKS BYTES`, by what stands after the first word
-abbrev pub records_of : List ℕ → Meaning
+abbrev pub records_of : List ℕ → Result Meaning Mistake
 records_of fields =
     given (kind_of (field_of fields)) mistake.Kind (λ kind.
     given (number_of (field_of (after_field fields))) mistake.Macroblocks (λ macroblocks.
     given (bytes_of (field_of (after_field (after_field fields)))) mistake.Bytes (λ bytes.
-    cond (length (field_of (after_field (after_field (after_field fields)))) == 0) (records kind macroblocks bytes) (wrong mistake.Fields))))
+    ended (after_field (after_field (after_field fields))) (record { kind = kind; macroblocks = macroblocks; bytes = bytes }))))
 
--- a line, up to a comment
-abbrev pub line_of : List ℕ → Meaning
+-- f of a value, where nothing is wrong
+abbrev pub result_map : {X Y : Type 0} → (X → Y) → Result X Mistake → Result Y Mistake
+result_map f (Ok x) = Ok (f x)
+result_map f (Err m) = Err m
+
+-- a line, up to a comment; a blank one says nothing
+abbrev pub line_of : List ℕ → Result (Option Meaning) Mistake
 line_of bytes =
-    cond (length (field_of (up_to (stops_at stop.Comment) bytes)) == 0) blank
-    (cond (bytes_eq (field_of (up_to (stops_at stop.Comment) bytes)) (codes "records")) (records_of (after_field (up_to (stops_at stop.Comment) bytes)))
-    (wrong mistake.Call))
+    cond (length (field_of (up_to is_hash bytes)) == 0) (Ok None)
+    (cond (bytes_eq (field_of (up_to is_hash bytes)) (codes "records")) (result_map Some (records_of (after_field (up_to is_hash bytes))))
+    (Err mistake.Call))

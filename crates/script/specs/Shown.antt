@@ -1,17 +1,15 @@
 -- What is counted of macroblock records for their text.
-use Rattle.std.specs.Prelude.{ℕ, ◌+◌, cond, List, [], ◌∷◌, ℤ, pos, negsuc, ◌==◌}
+use Rattle.std.specs.Prelude.{ℕ, Bool, true, not, List, ℤ, pos, negsuc, ◌==◌, count_by, sum_by}
 use Rattle.records.specs.declared.types.Block.{Block}
 
--- 1 for a level that is not 0
-abbrev pub one : ℤ → ℕ
-one (pos n) = cond (n == 0) 0 1
-one (negsuc n) = 1
+-- a level that is not 0
+abbrev pub is_level : ℤ → Bool
+is_level (pos n) = not (n == 0)
+is_level (negsuc n) = true
 
 -- the levels that are not 0
 abbrev pub count_of : List ℤ → ℕ
-count_of [] = 0
-count_of (level ∷ levels) = one level + count_of levels
+count_of levels = count_by is_level levels
 
 abbrev pub coefficients_in : List Block → ℕ
-coefficients_in [] = 0
-coefficients_in (block ∷ blocks) = count_of block.levels + coefficients_in blocks
+coefficients_in blocks = sum_by (λ (block : Block). count_of block.levels) blocks

@@ -9,15 +9,10 @@ use std::alloc::{AllocError, Global};
 fn push_digit(value: u32, digit: u8) -> Option<u32>
     ensures { result ≡ digit_more value digit }
 {
-    if digit < b'0' || digit > b'9' {
+    if !digit.is_ascii_digit() {
         return None;
     }
-    let next = u64::from(value) * 10 + u64::from(digit - b'0');
-    if next < 0x1_0000_0000 {
-        Some(next as u32)
-    } else {
-        None
-    }
+    value.checked_mul(10)?.checked_add(u32::from(digit - b'0'))
 }
 
 // The number that a field of decimal digits stands for, below 2^32.
@@ -27,14 +22,12 @@ pub fn number(field: &[u8]) -> Option<u32>
     if field.is_empty() {
         return None;
     }
-    let mut value = 0;
-    for digit in field {
-        value = push_digit(value, *digit)?;
-    }
-    Some(value)
+    field
+        .iter()
+        .try_fold(0, |value, digit| push_digit(value, *digit))
 }
 
-// The number that a hexadecimal digit stands for.
+// The number that a hexadecimal digit stands for. (The library's `to_digit` gives it as a number of 32 bits, to be brought back to a byte.)
 fn nibble(digit: u8) -> Option<u8>
     ensures { result ≡ nibble_of digit }
 {
@@ -52,6 +45,7 @@ pub fn unhex(heap: Global, digits: &[u8]) -> Result<Option<Vec<u8>>, AllocError>
 {
     let mut bytes = Vec::new(heap);
     let mut rest = digits;
+    // by pairs: `chunks_exact` would take the odd digit at the end apart, and its parts are no pairs to the proof
     while let [first, second, tail @ ..] = rest {
         let (Some(high), Some(low)) = (nibble(*first), nibble(*second)) else {
             return Ok(None);

@@ -1,38 +1,23 @@
 // Macroblock records as text.
 ghost use Rattle.std.specs.Prelude.{◌≡◌, ℕ, ◌≤◌};
-ghost use Rattle.script.specs.Shown.{coefficients_in, count_of, one};
+ghost use Rattle.script.specs.Shown.{coefficients_in, count_of};
 
 use records::types::{Block, Macroblock};
 use std::fmt;
-
-// 1 for a coefficient, and 0 where there is none.
-fn one_if(level: i8) -> usize
-    ensures { result ≡ one level }
-{
-    if level == 0 { 0 } else { 1 }
-}
 
 // How many of a block's levels are not 0: the number of its coefficient words.
 fn coefficients_in(block: &Block) -> usize
     ensures count { result ≡ count_of block.now.levels }
     ensures few { result ≤ 64 }
 {
-    let mut count = 0;
-    for level in &block.levels {
-        count += one_if(*level);
-    }
-    count
+    block.levels.iter().filter(|level| **level != 0).count()
 }
 
 // The same of a macroblock's six blocks.
 pub fn coefficients(blocks: &[Block; 6]) -> usize
     ensures { result ≡ coefficients_in blocks.now }
 {
-    let mut count = 0;
-    for block in blocks {
-        count += coefficients_in(block);
-    }
-    count
+    blocks.iter().map(coefficients_in).sum()
 }
 
 // A macroblock with its index in the delivery, a line of text.

@@ -18,8 +18,8 @@ use Rattle.seats.specs.declared.memories.StoredMemory.{StoredMemory}
 use Rattle.seats.specs.declared.memories.StoredMemory.TheVariants.{Bytes, Tiles}
 
 abbrev pub held_by : StoredMemory → Held
-held_by (Bytes m) = held_in (λ s. bytes_seen s.columns s.rows (vec_items s.memory)) m
-held_by (Tiles m) = held_in (λ s. tiles_seen s.columns s.rows (vec_items s.memory)) m
+held_by (Bytes m) = held_in (λ s. bytes_seen s.size.columns s.size.rows (vec_items s.memory)) m
+held_by (Tiles m) = held_in (λ s. tiles_seen s.size.columns s.size.rows (vec_items s.memory)) m
 
 -- the memory has the reel's size
 abbrev pub seated : Stage → StoredMemory → Bool

@@ -1,8 +1,8 @@
 // The calls of a reel in its seat.
-ghost use Rattle.std.specs.Prelude.{◌≡◌, true, false, IfOk};
+ghost use Rattle.std.specs.Prelude.{◌≡◌, true, IfOk, IsSome};
 ghost use Rattle.std.specs.Option.{option_map};
 ghost use Rattle.calls.specs.Runs.{call_of, calls_of};
-ghost use Rattle.call_lines.specs.Lines.{meant};
+ghost use Rattle.call_lines.specs.Lines.{told};
 ghost use Rattle.replay.specs.declared.Stage.TheVariants.{Resting};
 ghost use Rattle.transcripts.specs.Tallies.{one_more};
 ghost use Rattle.seats.specs.Seats.{Ran, held_by, seated};
@@ -10,10 +10,9 @@ ghost use Rattle.seats.specs.Turns.{call_in, calls_in, word_for};
 
 use crate::memories::StoredMemory;
 use crate::seat::{Choices, Seat};
-use call_lines::line::{Line, TransformKind};
+use call_lines::line::{Line, Said, TransformKind};
 use calls::answers::{Answer, Call};
 use calls::faults::PictureFault;
-use pictures::Format;
 use reel::reels::Reel;
 use replay::Stage;
 use std::alloc::{AllocError, Global};
@@ -21,9 +20,12 @@ use transcripts::answers::{AgeRow, Answered, Word};
 use transcripts::transcript::Transcript;
 
 // The call that a line makes on a reel, if it makes one.
-fn call_of(line: &Line) -> Option<Call<'_>>
-    ensures { option_map call_of result ≡ call_in (meant line.now) }
+fn call_of(line: &Said) -> Option<Call<'_>>
+    ensures { option_map call_of result ≡ call_in (told line.now) }
 {
+    let Ok(Some(line)) = line else {
+        return None;
+    };
     match line {
         Line::Open {
             kind,
@@ -70,7 +72,7 @@ fn word_of(call: &Call) -> Word
 }
 
 // The calls of some lines.
-fn calls_of(heap: Global, lines: &[Line]) -> Result<Vec<Call<'_>>, AllocError>
+fn calls_of(heap: Global, lines: &[Said]) -> Result<Vec<Call<'_>>, AllocError>
     ensures { IfOk result (λ v. calls_of v.items ≡ calls_in lines.now) }
 {
     let mut calls = Vec::new(heap);
@@ -84,7 +86,7 @@ fn calls_of(heap: Global, lines: &[Line]) -> Result<Vec<Call<'_>>, AllocError>
 }
 
 // The calls of some lines without a reel: each is out of turn.
-pub fn miss_calls(lines: &[Line], transcript: &mut Transcript) {
+pub fn miss_calls(lines: &[Said], transcript: &mut Transcript) {
     for line in lines {
         if let Some(call) = call_of(line) {
             transcript.answer(word_of(&call), Answer::OutOfTurn);
@@ -108,12 +110,12 @@ fn replay_lines(
     memory: &mut StoredMemory,
     transform: TransformKind,
     heap: Global,
-    lines: &[Line],
+    lines: &[Said],
     transcript: &mut Transcript,
 ) -> Stage
     requires { seated stage memory.old ≡ true }
     ensures size { seated result memory.new ≡ true }
-    ensures runs { transcript.new.short ≡ false → Ran transform stage (held_by memory.old) (calls_in lines.now) result (held_by memory.new) }
+    ensures runs { IsSome transcript.new.text → Ran transform stage (held_by memory.old) (calls_in lines.now) result (held_by memory.new) }
 {
     let Ok(calls) = calls_of(heap, lines) else {
         transcript.fall_short();
@@ -132,51 +134,39 @@ fn replay_lines(
 }
 
 impl Seat {
-    // Seats a new reel of a format.
-    pub fn new(
-        heap: Global,
-        reel: Reel,
-        format: Format,
-        choices: Choices,
-    ) -> Result<Seat, AllocError>
-        requires { reel.format ≡ format }
+    // Seats a new reel.
+    pub fn new(heap: Global, reel: Reel, choices: Choices) -> Result<Seat, AllocError>
         ensures { IfOk result (λ s. (s.stage ≡ Resting reel) × (s.transform ≡ choices.transform)) }
     {
-        let memory = StoredMemory::new(heap, choices.store, format)?;
+        let memory = StoredMemory::new(heap, choices.store, reel.format())?;
         Ok(Seat {
             stage: Stage::Resting(reel),
             memory,
             transform: choices.transform,
-            format,
         })
     }
 
     // Makes the calls of some lines, of which none but the last is a closing, and tells the answers.
-    pub fn make_calls(self, heap: Global, lines: &[Line], transcript: &mut Transcript) -> Seat
-        ensures runs { transcript.new.short ≡ false → Ran self.transform self.stage (held_by self.memory) (calls_in lines.now) result.stage (held_by result.memory) }
+    pub fn make_calls(self, heap: Global, lines: &[Said], transcript: &mut Transcript) -> Seat
+        ensures runs { IsSome transcript.new.text → Ran self.transform self.stage (held_by self.memory) (calls_in lines.now) result.stage (held_by result.memory) }
         ensures transform { result.transform ≡ self.transform }
     {
         let Seat {
             stage,
             mut memory,
             transform,
-            format,
         } = self;
         let stage = replay_lines(stage, &mut memory, transform, heap, lines, transcript);
         Seat {
             stage,
             memory,
             transform,
-            format,
         }
     }
 
     // Whether there is a finished picture, which the question after its first age tells.
     fn check_finished(&self) -> Result<u8, PictureFault> {
-        match &self.stage {
-            Stage::Resting(reel) => reel.age(self.memory.ages(), 0, 0),
-            Stage::Open(slip) => slip.age(self.memory.ages(), 0, 0),
-        }
+        self.stage.reel().age(self.memory.ages(), 0, 0)
     }
 
     // Tells the age table of the finished picture, a row of macroblocks to a line.
@@ -186,7 +176,8 @@ impl Seat {
         match self.check_finished() {
             Ok(_) => {
                 transcript.accept(Word::Ages);
-                for ages in self.memory.ages().chunks(self.format.columns() as usize) {
+                let columns = self.stage.reel().format().columns();
+                for ages in self.memory.ages().chunks(columns as usize) {
                     transcript.add(AgeRow { ages });
                 }
             }
@@ -203,7 +194,6 @@ impl Seat {
             stage,
             mut memory,
             transform: _,
-            format: _,
         } = self;
         match stage {
             Stage::Resting(_) => {}

@@ -1,9 +1,7 @@
 // The memory of a reel, in the store that the script chose.
 ghost use Rattle.std.specs.Prelude.{◌≡◌, true, IfOk};
-ghost use Rattle.stores.specs.Bytes.{bytes_seen};
-ghost use Rattle.stores.specs.Tiles.{tiles_seen};
 ghost use Rattle.calls.specs.Effects.{picture_closed};
-ghost use Rattle.calls.specs.Held.{fits, fits_store};
+ghost use Rattle.calls.specs.Held.{fits};
 ghost use Rattle.calls.specs.Runs.{calls_of};
 ghost use Rattle.reel.specs.Memories.{held_in};
 ghost use Rattle.replay.specs.Stages.{format_of, stage_in};
@@ -21,7 +19,7 @@ use stores::{ByteStore, TileStore};
 use transcripts::sums::{PictureSums, sum_plane, sum_table};
 use transform::{Direct, TwoPass};
 
-// A memory in bytes or in tiles.
+// A memory in bytes or in tiles. (Two arms in each method, and no type parameter: which store it is, is known only as the script is read.)
 #[derive(Drop)]
 pub enum StoredMemory {
     Bytes(Memory<ByteStore>),
@@ -52,24 +50,7 @@ fn with_tables<S: Drop>(
     })
 }
 
-// A store of bytes that are all 0.
-fn empty_bytes(heap: Global, format: Format) -> Result<ByteStore, AllocError>
-    ensures { IfOk result (λ s. fits_store format (bytes_seen s.columns s.rows s.memory.items) ≡ true) }
-{
-    Ok(ByteStore::new(format.number(), vec![in heap; 0u8; format.samples()]?))
-}
-
-// A store of tiles that are all 0: 96 words to a macroblock.
-fn empty_tiles(heap: Global, format: Format) -> Result<TileStore, AllocError>
-    ensures { IfOk result (λ s. fits_store format (tiles_seen s.columns s.rows s.memory.items) ≡ true) }
-{
-    Ok(TileStore::new(
-        format.number(),
-        vec![in heap; 0u32; format.macroblocks() * 96]?,
-    ))
-}
-
-// Makes calls by the transform that the script chose.
+// Makes calls by the transform that the script chose. (It and its callers hand on what `replay` takes.)
 fn replay_by<S: Store>(
     stage: Stage,
     memory: &mut Memory<S>,
@@ -89,9 +70,9 @@ fn replay_by<S: Store>(
 
 // Closes an open picture in a memory that has its size, and gives the marks of its segments.
 fn close_in<S: Store>(memory: &mut Memory<S>, slip: Slip) -> u32
-    requires { fits slip.format (held_in S.picture memory.old) ≡ true }
+    requires { fits slip.reel.format (held_in S.picture memory.old) ≡ true }
     ensures marks { result ≡ slip.accepted }
-    ensures memory { held_in S.picture memory.new ≡ picture_closed slip.format slip.kind slip.layout slip.accepted (held_in S.picture memory.old) }
+    ensures memory { held_in S.picture memory.new ≡ picture_closed slip.reel.format slip.kind slip.layout slip.accepted (held_in S.picture memory.old) }
 {
     match slip.close(memory) {
         Ok((_, marks)) => marks,
@@ -118,13 +99,13 @@ impl StoredMemory {
     {
         match kind {
             StoreKind::Bytes => {
-                let finished = empty_bytes(heap, format)?;
-                let working = empty_bytes(heap, format)?;
+                let finished = ByteStore::filled(heap, format, 0)?;
+                let working = ByteStore::filled(heap, format, 0)?;
                 Ok(StoredMemory::Bytes(with_tables(heap, format, finished, working)?))
             }
             StoreKind::Tiles => {
-                let finished = empty_tiles(heap, format)?;
-                let working = empty_tiles(heap, format)?;
+                let finished = TileStore::filled(heap, format, 0)?;
+                let working = TileStore::filled(heap, format, 0)?;
                 Ok(StoredMemory::Tiles(with_tables(heap, format, finished, working)?))
             }
         }
@@ -150,9 +131,9 @@ impl StoredMemory {
 
     // Closes an open picture, and gives the marks of its segments.
     pub fn close(&mut self, slip: Slip) -> u32
-        requires { fits slip.format (held_by self.old) ≡ true }
+        requires { fits slip.reel.format (held_by self.old) ≡ true }
         ensures marks { result ≡ slip.accepted }
-        ensures memory { held_by self.new ≡ picture_closed slip.format slip.kind slip.layout slip.accepted (held_by self.old) }
+        ensures memory { held_by self.new ≡ picture_closed slip.reel.format slip.kind slip.layout slip.accepted (held_by self.old) }
     {
         match self {
             StoredMemory::Bytes(memory) => close_in(memory, slip),

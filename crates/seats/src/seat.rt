@@ -4,7 +4,6 @@ ghost use Rattle.seats.specs.Seats.{seated};
 
 use crate::memories::StoredMemory;
 use call_lines::line::{StoreKind, TransformKind};
-use pictures::Format;
 use replay::Stage;
 
 // What the script chose for the reels to come.
@@ -20,6 +19,5 @@ pub struct Seat {
     pub(crate) stage: Stage,
     pub(crate) memory: StoredMemory,
     pub(crate) transform: TransformKind,
-    pub(crate) format: Format,
     ghost fit: { seated stage memory ≡ true },
 }

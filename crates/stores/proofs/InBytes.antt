@@ -1,5 +1,5 @@
 -- No two places of a byte store have one byte_address, and each byte_address lies in memory.
-use Rattle.std.proofs.Common.{◌≡◌, ℕ, zero, suc, ◌+◌, ◌-◌, ◌*◌, ◌%◌, ◌<◌, ◌≤◌, cond, ◌&&◌, eqb, ltb, leb, List, length, get_or, set, sym, refl, ap, ◌∙◌, ⊎_elim, mod-eq_of_lt, arith}
+use Rattle.std.proofs.Common.{◌≡◌, ℕ, zero, suc, ◌+◌, ◌-◌, ◌*◌, ◌%◌, ◌<◌, ◌≤◌, cond, ◌&&◌, eqb, ltb, leb, List, min, length, get_or, set, sym, refl, ap, ◌∙◌, ⊎_elim, mod-eq_of_lt, arith}
 use native.Mathlib.Nat.{mul-mul-mul_comm}
 use Rattle.std.proofs.lemmas.List.{get_or-set_same, get_or-set_other}
 use Rattle.std.proofs.lemmas.Nat.{mul-add-lt}
@@ -7,6 +7,7 @@ use Rattle.std.proofs.lemmas.Bool.{cases_eq, cond-true, eq-eqb, ne_eqb}
 use Rattle.std.proofs.lemmas.Bool.Decides.{nat_tests}
 use Rattle.pictures.specs.Pictures.{painted, side, span, start}
 use Rattle.pictures.proofs.Addresses.{Within, within, Apart, same_digits, paints_run}
+use Rattle.tables.specs.Cells.{in_part}
 use Rattle.stores.specs.Bytes.{RunAt, byte_address, byte_at, bytes_seen}
 
 -- a row and a column of a plane of side s are within its samples
@@ -70,7 +71,7 @@ run_kept columns rows p x y count w some le =
 -- a run of bytes is copied from a store of the same size
 pub run_copied : (columns rows columns' rows' p x y right at count : ℕ) (bytes others after : List ℕ) → columns ≡ columns' → rows ≡ rows'
     → RunAt columns rows p x y right at count → columns * rows * 384 ≤ length bytes → columns * rows * 384 ≤ length others
-    → ((k d : ℕ) → get_or after k d ≡ cond (leb at k && (ltb k (at + count) && (ltb k (length others) && ltb k (length bytes)))) (get_or others k d) (get_or bytes k d))
+    → ((k d : ℕ) → get_or after k d ≡ cond (in_part at count (min (length others) (length bytes)) k) (get_or others k d) (get_or bytes k d))
     → bytes_seen columns rows after ≡ painted (span p y x (x + count)) (bytes_seen columns' rows' others).sample (bytes_seen columns rows bytes)
 run_copied columns rows columns' rows' p x y right at count bytes others after c r run room room' cells =
     let w = within columns rows p x y run.isin in
@@ -81,5 +82,5 @@ run_copied columns rows columns' rows' p x y right at count bytes others after c
     (λ q u v i e. rw (← c, ← r) (sym (cond-true _ _ _ i)))
   where
     tests : (at count from to n x y : ℕ) → at + count ≤ from → at + count ≤ to
-        → cond (leb at n && (ltb n (at + count) && (ltb n from && ltb n to))) x y % 256 ≡ cond (leb at n && ltb n (at + count)) (x % 256) (y % 256)
+        → cond (in_part at count (min from to) n) x y % 256 ≡ cond (leb at n && ltb n (at + count)) (x % 256) (y % 256)
     tests at count from to n x y h i = grind (arith, nat_tests)

@@ -1,2 +1,3 @@
+pub mod Fitting
 pub mod InBytes
 pub mod InTiles

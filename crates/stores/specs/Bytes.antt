@@ -1,8 +1,6 @@
 -- The byte store: plane 0 by rows, then planes 1 and 2, a byte to a sample.
-use Rattle.std.specs.Prelude.{◌≡◌, ℕ, ◌+◌, ◌*◌, ◌/◌, ◌%◌, ◌<◌, ◌≤◌, true, List, length, slice_index}
-use Rattle.pictures.specs.Formats.{numbered}
+use Rattle.std.specs.Prelude.{◌≡◌, ℕ, ◌+◌, ◌*◌, ◌%◌, ◌<◌, ◌≤◌, true, List, slice_index}
 use Rattle.pictures.specs.Pictures.{Picture, inside, seen, side, start}
-use Rattle.stores.specs.Room.{size_in}
 
 -- where a sample is kept
 unfoldable pub byte_address : ℕ → ℕ → ℕ → ℕ → ℕ → ℕ
@@ -24,7 +22,3 @@ pub record RunAt (columns rows p x y right at count : ℕ) : Type 0 where
 -- the picture that bytes hold, where it has so many columns and rows
 abbrev pub bytes_seen : ℕ → ℕ → List ℕ → Picture
 bytes_seen columns rows bytes = seen columns rows (byte_address columns rows) (byte_at bytes)
-
--- the picture of a store that is made of bytes for the format of a number, at 384 bytes to a macroblock
-abbrev pub bytes_made : ℕ → List ℕ → Picture
-bytes_made format bytes = bytes_seen (size_in (numbered format) (length bytes / 384)).0 (size_in (numbered format) (length bytes / 384)).1 bytes

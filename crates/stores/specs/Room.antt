@@ -1,7 +1,13 @@
--- The size of a store over memory that has room for so many macroblocks.
-use Rattle.std.specs.Prelude.{ℕ, ◌*◌, Bool, false, cond, Some, None, Option, nat_le}
+-- The size of a store over memory that has room for so many macroblocks, and what it keeps where.
+use Rattle.std.specs.Prelude.{◌≡◌, ℕ, ◌*◌, ◌/◌, ◌<◌, Bool, true, false, cond, Some, None, Option, MatchOption, List, length, nat_le}
 use Rattle.pictures.specs.declared.formats.Format.{Format}
-use Rattle.pictures.specs.Formats.{columns_of, rows_of}
+use Rattle.pictures.specs.Formats.{columns_of, numbered, rows_of}
+use Rattle.pictures.specs.Pictures.{Picture, inside}
+
+-- the format, if there is one and room for all its macroblocks
+abbrev pub fitting : Option Format → ℕ → Option Format
+fitting (Some format) room = cond (nat_le (columns_of format * rows_of format) room) (Some format) None
+fitting None room = None
 
 -- there is such a format, and room for all its macroblocks
 abbrev pub holds : Option Format → ℕ → Bool
@@ -12,3 +18,17 @@ holds None room = false
 abbrev pub size_in : Option Format → ℕ → ℕ × ℕ
 size_in (Some format) room = cond (nat_le (columns_of format * rows_of format) room) (columns_of format, rows_of format) (0, 0)
 size_in None room = (0, 0)
+
+-- the picture of a store that is made of cells for the format of a number, at so many cells to a macroblock, where cells are seen so
+abbrev pub made : {C : Type 0} → (ℕ → ℕ → List C → Picture) → ℕ → ℕ → List C → Picture
+made seen per format cells = seen (size_in (numbered format) (length cells / per)).0 (size_in (numbered format) (length cells / per)).1 cells
+
+-- a place inside has the number of its sample in the order of memory, which is one of the samples there
+pub record PlacedAt (columns rows : ℕ) (address : ℕ → ℕ → ℕ → ℕ) (p x y at : ℕ) : Type 0 where
+  pub isin : inside columns rows p x y ≡ true
+  pub from : at ≡ address p x y
+  pub kept : at < columns * rows * 384
+
+-- and one outside has none
+abbrev pub Placed : ℕ → ℕ → (ℕ → ℕ → ℕ → ℕ) → ℕ → ℕ → ℕ → Option ℕ → Type 0
+Placed columns rows address p x y place = MatchOption place (inside columns rows p x y ≡ false) (λ at. PlacedAt columns rows address p x y at)

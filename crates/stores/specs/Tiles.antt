@@ -1,9 +1,7 @@
 -- The tiled word store: macroblocks in raster order, each with its 256 samples of plane 0, its 64 of plane 1 and its 64 of plane 2, by rows;
 -- four neighbours of a row to a word of 32 bits, the leftmost in the top bits.
-use Rattle.std.specs.Prelude.{◌≡◌, ℕ, ◌+◌, ◌*◌, ◌/◌, ◌%◌, ◌<◌, ◌≤◌, true, List, [], ◌∷◌, length, slice_index}
-use Rattle.pictures.specs.Formats.{numbered}
+use Rattle.std.specs.Prelude.{◌≡◌, ℕ, ◌+◌, ◌*◌, ◌/◌, ◌%◌, ◌<◌, ◌≤◌, true, List, [], ◌∷◌, slice_index}
 use Rattle.pictures.specs.Pictures.{Picture, inside, seen, side, start}
-use Rattle.stores.specs.Room.{size_in}
 
 -- the number of a sample in the order of memory
 unfoldable pub tile_address : ℕ → ℕ → ℕ → ℕ → ℕ
@@ -28,7 +26,3 @@ pub record WordAt (columns rows p x y right word : ℕ) : Type 0 where
 -- the picture that words hold, where it has so many columns and rows
 abbrev pub tiles_seen : ℕ → ℕ → List ℕ → Picture
 tiles_seen columns rows words = seen columns rows (tile_address columns) (lane_at words)
-
--- the picture of a store that is made of words for the format of a number, at 96 words to a macroblock
-abbrev pub tiles_made : ℕ → List ℕ → Picture
-tiles_made format words = tiles_seen (size_in (numbered format) (length words / 96)).0 (size_in (numbered format) (length words / 96)).1 words

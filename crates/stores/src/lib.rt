@@ -3,8 +3,10 @@
 #![tactic(auto)]
 
 mod bytes;
+mod cells;
 mod room;
 mod tiles;
 
 pub use bytes::ByteStore;
+pub use cells::CellStore;
 pub use tiles::TileStore;

@@ -1,7 +1,8 @@
 // Both stores side by side, on all formats; the memories cell by cell; segments; and tables of each kind of element.
 #![tactic(auto)]
 
-ghost use Rattle.std.specs.Prelude.{◌≡◌, ℕ, ◌+◌, ◌&&◌, length, ℤ, pos, if◌then◌else◌, None, Option, nat_le, nat_lt, slice_index_or};
+ghost use Rattle.std.specs.Prelude.{◌≡◌, ℕ, length, ℤ, pos, if◌then◌else◌, None, Option, slice_index_or};
+ghost use Rattle.tables.specs.Cells.{in_part};
 
 #[cfg(test)]
 mod tests;
@@ -14,9 +15,9 @@ pub fn clear_cells(
     first: usize,
     count: usize,
 )
-    ensures ages { (k d : ℕ) → slice_index_or ages.new k d ≡ (if nat_le first k && (nat_lt k (first + count) && nat_lt k (length ages.old)) then 255 else slice_index_or ages.old k d) }
-    ensures vectors { (k : ℕ) (d : ℤ × ℤ) → slice_index_or vectors.new k d ≡ (if nat_le first k && (nat_lt k (first + count) && nat_lt k (length vectors.old)) then (pos 0, pos 0) else slice_index_or vectors.old k d) }
-    ensures marks { (k : ℕ) (d : Option ℕ) → slice_index_or marks.new k d ≡ (if nat_le first k && (nat_lt k (first + count) && nat_lt k (length marks.old)) then None else slice_index_or marks.old k d) }
+    ensures ages { (k d : ℕ) → slice_index_or ages.new k d ≡ (if in_part first count (length ages.old) k then 255 else slice_index_or ages.old k d) }
+    ensures vectors { (k : ℕ) (d : ℤ × ℤ) → slice_index_or vectors.new k d ≡ (if in_part first count (length vectors.old) k then (pos 0, pos 0) else slice_index_or vectors.old k d) }
+    ensures marks { (k : ℕ) (d : Option ℕ) → slice_index_or marks.new k d ≡ (if in_part first count (length marks.old) k then None else slice_index_or marks.old k d) }
 {
     tables::fill_part(ages, first, count, 255);
     tables::fill_part(vectors, first, count, (0, 0));

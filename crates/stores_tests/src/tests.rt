@@ -1,6 +1,6 @@
 use crate::clear_cells;
-use pictures::{Format, Segment, Store, copy_picture, copy_segment, fill_segment};
-use std::alloc::Global;
+use pictures::{Format, Segment, Store, UnknownFormat, copy_picture, copy_segment, fill_segment};
+use std::alloc::{AllocError, Global};
 use std::process::Abort;
 use std::test::Fail;
 use stores::{ByteStore, TileStore};
@@ -14,66 +14,50 @@ fn drawn(plane: u8, across: usize, down: usize) -> u8 {
         % 251) as u8
 }
 
-// Writes the drawing at every place of planes as large as CIF's, and so at many places outside a smaller picture. Counts those inside.
-fn draw<S: Store>(store: &mut S) -> u32 {
-    let mut inside = 0u32;
-    for plane in 0..4 {
+// How many places pass a test, of so many planes as large as CIF's, and so of many places outside a smaller picture.
+fn count_places<F: FnMut(u8, usize, usize) -> bool>(planes: u8, mut test: F) -> u32
+    requires { F.IsAlwaysCallable test }
+{
+    let mut count = 0u32;
+    for plane in 0..planes {
         for down in 0..300 {
             for across in 0..360 {
-                inside = inside.wrapping_add(u32::from(store.write(
-                    plane,
-                    across,
-                    down,
-                    drawn(plane, across, down),
-                )));
+                count = count.wrapping_add(u32::from(test(plane, across, down)));
             }
         }
     }
-    inside
+    count
+}
+
+// Writes the drawing at every place. Counts those inside.
+fn draw<S: Store>(store: &mut S) -> u32 {
+    count_places(4, |plane, across, down| {
+        store.write(plane, across, down, drawn(plane, across, down))
+    })
 }
 
 // How many places, inside and outside, two stores read differently.
 fn differences<A: Store, B: Store>(a: &A, b: &B) -> u32 {
-    let mut count = 0u32;
-    for plane in 0..4 {
-        for down in 0..300 {
-            for across in 0..360 {
-                count = count.wrapping_add(u32::from(
-                    a.read(plane, across, down) != b.read(plane, across, down),
-                ));
-            }
-        }
-    }
-    count
+    count_places(4, |plane, across, down| {
+        a.read(plane, across, down) != b.read(plane, across, down)
+    })
 }
 
 // How many places of a store read otherwise than the drawing.
 fn not_drawn<S: Store>(store: &S) -> u32 {
-    let mut count = 0u32;
-    for plane in 0..3 {
-        for down in 0..300 {
-            for across in 0..360 {
-                match store.read(plane, across, down) {
-                    Some(value) => count = count.wrapping_add(u32::from(
-                        value != drawn(plane, across, down),
-                    )),
-                    None => {}
-                }
-            }
-        }
-    }
-    count
+    count_places(3, |plane, across, down| {
+        store
+            .read(plane, across, down)
+            .is_some_and(|value| value != drawn(plane, across, down))
+    })
 }
 
-fn bytes_of(heap: Global, format: Format) -> Result<ByteStore, Fail> {
-    Ok(ByteStore::new(format.number(), vec![in heap; 9u8; format.samples()]?))
+fn bytes_of(heap: Global, format: Format) -> Result<ByteStore, AllocError> {
+    ByteStore::filled(heap, format, 9)
 }
 
-fn tiles_of(heap: Global, format: Format) -> Result<TileStore, Fail> {
-    Ok(TileStore::new(
-        format.number(),
-        vec![in heap; 0x0909_0909u32; format.macroblocks() * 96]?,
-    ))
+fn tiles_of(heap: Global, format: Format) -> Result<TileStore, AllocError> {
+    TileStore::filled(heap, format, 0x0909_0909)
 }
 
 // One drawing, one band and one copy through both stores.
@@ -197,8 +181,8 @@ fn tiles_in_memory(rt: HostRuntime) -> Result<(), Fail> {
 
 #[test]
 fn segments_of_layouts(rt: HostRuntime) {
-    assert_eq!(rt; Format::from_number(2), Some(Format::Qcif));
-    assert_eq!(rt; Format::from_number(0), None);
+    assert_eq!(rt; Format::try_from(2), Ok(Format::Qcif));
+    assert_eq!(rt; Format::try_from(0), Err(UnknownFormat(0)));
     assert_eq!(rt; Format::Qcif.is_sound(0b1_0001_0001), true);
     assert_eq!(rt; Format::Qcif.is_sound(0b11_0001_0001), false);
     assert_eq!(rt; Format::Qcif.is_sound(0b1_0001_0000), false);

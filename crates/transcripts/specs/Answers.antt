@@ -1,5 +1,6 @@
 -- The text of an answer.
-use Rattle.std.specs.Prelude.{ℕ, List, [], ◌∷◌, ◌++◌, codes, decimal}
+use Rattle.std.specs.Prelude.{◌≡◌, ℕ, List, [], ◌∷◌, ◌++◌, codes, decimal, IsSome, Option, String, string_bytes}
+use Rattle.std.specs.Option.{option_map}
 use Rattle.records.specs.Shown.{refusal_text}
 use Rattle.calls.specs.declared.answers.Answer.{Answer}
 use Rattle.calls.specs.declared.answers.Answer.TheVariants.{Opened, Delivered, Closed, Sample, Age, Refused, OutOfTurn}
@@ -33,3 +34,7 @@ done_text calls refused = codes "done " ++ (decimal calls ++ (codes " calls, " +
 -- a text with a line more
 abbrev pub line_after : List ℕ → List ℕ → List ℕ
 line_after text line = text ++ (line ++ (10 ∷ []))
+
+-- where there still is a text, it is the text before with a line more
+abbrev pub Grown : {A : Type 0} → Option (String A) → Option (String A) → List ℕ → Type 0
+Grown old new line = IsSome new → option_map string_bytes new ≡ option_map (λ s. line_after (string_bytes s) line) old

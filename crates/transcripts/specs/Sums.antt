@@ -1,17 +1,13 @@
 -- Sums of 32 bits.
-use Rattle.std.specs.Prelude.{ℕ, zero, suc, ◌*◌, ◌%◌, ◌^◌, List, [], ◌∷◌, bit_xor}
+use Rattle.std.specs.Prelude.{ℕ, zero, suc, ◌*◌, ◌%◌, ◌^◌, List, bit_xor, fold}
 use Rattle.pictures.specs.Pictures.{Picture, side}
 
 abbrev pub sum_more : ℕ → ℕ → ℕ
 sum_more sum byte = (bit_xor sum byte * 16777619) % 2 ^ 32
 
-abbrev pub sum_from : ℕ → List ℕ → ℕ
-sum_from sum [] = sum
-sum_from sum (b ∷ bs) = sum_from (sum_more sum b) bs
-
 -- of a table
 abbrev pub sum_of : List ℕ → ℕ
-sum_of bytes = sum_from 2166136261 bytes
+sum_of bytes = fold sum_more 2166136261 bytes
 
 -- of the first samples of a row, after a sum
 unfoldable pub row_sum : (ℕ → ℕ → ℕ) → ℕ → ℕ → ℕ → ℕ

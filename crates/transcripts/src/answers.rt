@@ -2,8 +2,8 @@
 ghost use Rattle.std.specs.Prelude.{Some};
 ghost use Rattle.transcripts.specs.Answers.{answer_text, word_text};
 
-use call_lines::line::Mistake;
 use calls::answers::Answer;
+use script::line::Mistake;
 use std::fmt;
 
 // The first word of a line that makes a call.

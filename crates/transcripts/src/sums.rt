@@ -19,17 +19,14 @@ fn sum_more(sum: u32, byte: u8) -> u32
 pub fn sum_table(cells: &[u8]) -> u32
     ensures { result ≡ sum_of cells.now }
 {
-    let mut sum = NONE;
-    for cell in cells {
-        sum = sum_more(sum, *cell);
-    }
-    sum
+    cells.iter().fold(NONE, |sum, cell| sum_more(sum, *cell))
 }
 
 // A sum with the samples of one row of a plane, from left to right.
 fn sum_row<S: Store>(sum: u32, store: &S, plane: u8, down: usize, width: usize) -> u32
     ensures { result ≡ row_sum ((S.picture store.now).sample plane) down width sum }
 {
+    // a `fold` over the range did not prove: the library's lemmas on ranges did not reach the sum of a row
     let mut sum = sum;
     for across in 0..width {
         sum = sum_more(sum, store.sample(plane, across, down));
@@ -41,6 +38,7 @@ fn sum_row<S: Store>(sum: u32, store: &S, plane: u8, down: usize, width: usize) 
 pub fn sum_plane<S: Store>(store: &S, plane: u8) -> u32
     ensures { result ≡ plane_sum (S.picture store.now) plane }
 {
+    // as in a row
     let mut sum = NONE;
     let side = side_of(plane);
     let width = store.columns() as usize * side;

@@ -1,17 +1,14 @@
--- Two passes, one over the rows and one over the columns, are the transforms. Assumes nothing.
-use Rattle.std.proofs.Common.{◌≡◌, ℕ, ◌+◌, ◌*◌, ◌/◌, ◌%◌, ◌<◌, ◌≤◌, List, get_or, ℤ, pos, negsuc, ◌+ℤ◌, ◌*ℤ◌, nat_abs, sym, refl, ap, ◌∙◌, subst, arith}
-use lib.IntN.{+ℤ_idr, *ℤ_comm}
+-- Two passes, one over the rows and one over the columns, are the transform by two passes. Assumes nothing.
+use Rattle.std.proofs.Common.{◌≡◌, ℕ, ◌+◌, ◌*◌, ◌/◌, ◌%◌, ◌<◌, ◌≤◌, List, get_or, ℤ, pos, ◌+ℤ◌, ◌*ℤ◌, nat_abs, sym, refl, ap, ◌∙◌, subst, arith}
 use Rattle.std.proofs.lemmas.Int.{ints, clamps}
 use Rattle.transform.specs.Sums.{sum8, floor, brought}
 use Rattle.transform.specs.Factors.{cosine}
-use Rattle.transform.specs.Inverse.{limited, coefficient, ranged, between, twice, once}
+use Rattle.transform.specs.Inverse.{limited, coefficient, ranged, between, twice}
+use Rattle.transform.specs.Blocks.{Gives}
 use Rattle.transform.specs.Passes.{weighed, passed, Small}
 use Rattle.transform.proofs.Sizes.{floor_size}
 use Rattle.transform.proofs.Rows.{weighed_size}
-use Rattle.transform.specs.SumLaws.{times_assoc, sum_same, sum_scale, sum_swap}
-
-abbrev pub Gives : List ℤ → (ℕ → ℤ) → Type 0
-Gives rs f = (p : ℕ) → p < 64 → get_or rs p (pos 0) ≡ f p
+use Rattle.transform.specs.SumLaws.{sum_same}
 
 -- the coefficients within their range
 abbrev pub in_range : List ℤ → ℕ → ℤ
@@ -48,41 +45,11 @@ columns : (gs : List ℤ) (f : ℕ → ℕ → ℤ) (n k : ℕ) → n < 8 → ((
 unfolding weighed
 columns gs f n k h e = sum_same 8 _ _ (λ v l. ap (λ z. cosine v k *ℤ z) (e v l))
 
-whole : (z : ℤ) → floor z 1 ≡ z
-unfolding floor
-whole (pos a) = ap pos (omega arith)
-whole (negsuc a) = ap negsuc (omega arith)
-
-unrounded : (z : ℤ) → floor (z +ℤ pos 0) 1 ≡ z
-unrounded z = ap (λ y. floor y 1) (+ℤ_idr z) ∙ whole z
-
-turned : (a b x : ℤ) → b *ℤ (a *ℤ x) ≡ a *ℤ b *ℤ x
-turned a b x = sym (times_assoc b a x) ∙ ap (λ z. z *ℤ x) (*ℤ_comm b a)
-
--- the direct transform's double sum, row by row
-separate : (n k : ℕ) (x : ℕ → ℕ → ℤ) → sum8 (λ v. cosine v k *ℤ sum8 (λ u. cosine u n *ℤ x u v)) ≡ sum8 (λ u. sum8 (λ v. cosine u n *ℤ cosine v k *ℤ x u v))
-separate n k x =
-    sum_same 8 _ _ (λ v h. sum_scale 8 (cosine v k) (λ u. cosine u n *ℤ x u v))
-    ∙ sum_swap 8 8 (λ u v. cosine v k *ℤ (cosine u n *ℤ x u v))
-    ∙ sum_same 8 _ _ (λ u h. sum_same 8 _ _ (λ v l. turned (cosine u n) (cosine v k) (x u v)))
-
 module _ (xs ws gs rs out : List ℤ) (last d : ℕ) (wide : Gives ws (in_range xs)) (narrow : Gives out (λ p. ranged (get_or rs p (pos 0)))) (second : Gives rs (passed gs last d)) where
-  -- the second pass, where the first gave f
-  ends : (f : ℕ → ℕ → ℤ) (n k : ℕ) → n < 8 → k < 8 → ((v : ℕ) → v < 8 → get_or gs (8 * n + v) (pos 0) ≡ f n v)
-      → get_or out (8 * k + n) (pos 0) ≡ ranged (floor (sum8 (λ v. cosine v k *ℤ f n v) +ℤ pos last) d)
-  ends f n k hn hk inner =
-      narrow (8 * k + n) (omega arith)
-      ∙ ap ranged (second (8 * k + n) (omega arith) ∙ at_place gs last d k n hn ∙ ap (λ z. floor (z +ℤ pos last) d) (columns gs f n k hn inner))
-
   pub twice_is : (half e : ℕ) → Gives gs (passed ws half e) → (n k : ℕ) → n < 8 → k < 8 → get_or out (8 * k + n) (pos 0) ≡ twice half e last d xs n k
   unfolding twice between
   twice_is half e first n k hn hk =
-      ends (between half e xs) n k hn hk
-      (λ v h. first (8 * n + v) (omega arith) ∙ at_place ws half e n v h ∙ ap (λ z. floor (z +ℤ pos half) e) (rows xs ws wide n v h))
-
-  pub once_is : Gives gs (passed ws 0 1) → (n k : ℕ) → n < 8 → k < 8 → get_or out (8 * k + n) (pos 0) ≡ once last d xs n k
-  unfolding once
-  once_is first n k hn hk =
-      ends (λ n v. sum8 (λ u. cosine u n *ℤ coefficient xs u v)) n k hn hk
-      (λ v h. first (8 * n + v) (omega arith) ∙ at_place ws 0 1 n v h ∙ unrounded (weighed ws n v) ∙ rows xs ws wide n v h)
-      ∙ ap (λ z. ranged (floor (z +ℤ pos last) d)) (separate n k (coefficient xs))
+      narrow (8 * k + n) (omega arith)
+      ∙ ap ranged (second (8 * k + n) (omega arith) ∙ at_place gs last d k n hn
+      ∙ ap (λ z. floor (z +ℤ pos last) d) (columns gs (between half e xs) n k hn
+      (λ v h. first (8 * n + v) (omega arith) ∙ at_place ws half e n v h ∙ ap (λ z. floor (z +ℤ pos half) e) (rows xs ws wide n v h))))

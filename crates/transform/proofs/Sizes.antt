@@ -13,7 +13,7 @@ pub fits_size : (w : Width) (z : ℤ) → nat_abs z < 2 ^ hbits w → SFits w z
 fits_size w (pos n) h = record { sfits = h }
 fits_size w (negsuc n) h = record { sfits = omega arith }
 
-abs_neg : (n : ℕ) → nat_abs (neg_ℤ (pos n)) ≡ n
+pub abs_neg : (n : ℕ) → nat_abs (neg_ℤ (pos n)) ≡ n
 abs_neg zero = refl
 abs_neg (suc n) = refl
 

@@ -1,17 +1,43 @@
 -- The laws of the transforms. Assumes nothing.
 use Rattle.std.specs.Prelude.{◌≡◌, ℕ, zero, suc, ◌+◌, ◌*◌, ◌<◌, List, [], ◌∷◌, map, ℤ, pos, negsuc, ◌+ℤ◌, ◌*ℤ◌, ◌≤ℤ◌, slice_index_or, refl}
-use Rattle.std.proofs.Common.{ap, ◌∙◌, arith, zero-add}
+use Rattle.std.proofs.Common.{sym, ap, ◌∙◌, arith, zero-add}
 use Rattle.std.proofs.Math.Nat.{div-eq_of_lt}
 use Rattle.std.proofs.Math.IntN.{*ℤ-zero}
+use lib.IntN.{+ℤ_idr, *ℤ_comm}
 use Rattle.std.proofs.lemmas.Int.{ints, clamps}
-use Rattle.transform.specs.Sums.{floor, brought}
+use Rattle.transform.specs.Sums.{sum8, floor, brought}
 use Rattle.transform.specs.Factors.{cosine}
 use Rattle.transform.specs.Inverse.{limited, coefficient, ranged, between, twice, once}
-use Rattle.transform.specs.SumLaws.{sum_same, sum_zeros}
+use Rattle.transform.specs.SumLaws.{times_assoc, sum_same, sum_scale, sum_swap, sum_zeros}
 
 pub ranged_range : (z : ℤ) → (negsuc 255 ≤ℤ ranged z) × (ranged z ≤ℤ pos 255)
 unfolding ranged brought
 ranged_range z = (omega (arith, ints, clamps), omega (arith, ints, clamps))
+
+-- ---- one sum that is rounded once: two passes, of which the first keeps its sums whole
+whole : (z : ℤ) → floor z 1 ≡ z
+unfolding floor
+whole (pos a) = ap pos (omega arith)
+whole (negsuc a) = ap negsuc (omega arith)
+
+unrounded : (z : ℤ) → floor (z +ℤ pos 0) 1 ≡ z
+unrounded z = ap (λ y. floor y 1) (+ℤ_idr z) ∙ whole z
+
+turned : (a b x : ℤ) → b *ℤ (a *ℤ x) ≡ a *ℤ b *ℤ x
+turned a b x = sym (times_assoc b a x) ∙ ap (λ z. z *ℤ x) (*ℤ_comm b a)
+
+-- the direct transform's double sum, row by row
+separate : (n k : ℕ) (x : ℕ → ℕ → ℤ) → sum8 (λ v. cosine v k *ℤ sum8 (λ u. cosine u n *ℤ x u v)) ≡ sum8 (λ u. sum8 (λ v. cosine u n *ℤ cosine v k *ℤ x u v))
+separate n k x =
+    sum_same 8 _ _ (λ v h. sum_scale 8 (cosine v k) (λ u. cosine u n *ℤ x u v))
+    ∙ sum_swap 8 8 (λ u v. cosine v k *ℤ (cosine u n *ℤ x u v))
+    ∙ sum_same 8 _ _ (λ u h. sum_same 8 _ _ (λ v l. turned (cosine u n) (cosine v k) (x u v)))
+
+pub unrounded_rows : (half d : ℕ) (xs : List ℤ) (n k : ℕ) → twice 0 1 half d xs n k ≡ once half d xs n k
+unfolding twice between once
+unrounded_rows half d xs n k =
+    ap (λ z. ranged (floor (z +ℤ pos half) d))
+    (sum_same 8 _ _ (λ v h. ap (λ z. cosine v k *ℤ z) (unrounded (sum8 (λ u. cosine u n *ℤ coefficient xs u v)))) ∙ separate n k (coefficient xs))
 
 -- ---- zeros: a coefficient that is 0 stays so
 coefficient_zero : (xs : List ℤ) (u v : ℕ) → slice_index_or xs (8 * v + u) (pos 0) ≡ pos 0 → coefficient xs u v ≡ pos 0
@@ -41,10 +67,7 @@ twice_zeros half d last e h l xs n k z =
     ap (λ s. ranged (floor (s +ℤ pos last) e)) (sum_zeros 8 _ (λ v _. times_zero (cosine v k) _ (between_zero half d h xs n v z))) ∙ ranged_zero last e l
 
 pub once_zeros : (half d : ℕ) → half < d → (xs : List ℤ) (n k : ℕ) → ((p : ℕ) → slice_index_or xs p (pos 0) ≡ pos 0) → once half d xs n k ≡ pos 0
-unfolding once
-once_zeros half d h xs n k z =
-    ap (λ s. ranged (floor (s +ℤ pos half) d))
-    (sum_zeros 8 _ (λ u _. sum_zeros 8 _ (λ v _. times_zero (cosine u n *ℤ cosine v k) _ (coefficient_zero xs u v (z (8 * v + u)))))) ∙ ranged_zero half d h
+once_zeros half d h xs n k z = sym (unrounded_rows half d xs n k) ∙ twice_zeros 0 1 half d (omega arith) h xs n k z
 
 -- ---- ends: to bring a coefficient into its range twice changes nothing
 limited_twice : (z : ℤ) → limited z ≡ limited (limited z)
@@ -70,7 +93,4 @@ twice_ends half d last e xs n k =
     ap (λ s. ranged (floor (s +ℤ pos last) e)) (sum_same 8 _ _ (λ v h. ap (λ z. cosine v k *ℤ z) (between_ends half d xs n v)))
 
 pub once_ends : (half d : ℕ) (xs : List ℤ) (n k : ℕ) → once half d xs n k ≡ once half d (map limited xs) n k
-unfolding once
-once_ends half d xs n k =
-    ap (λ s. ranged (floor (s +ℤ pos half) d))
-    (sum_same 8 _ _ (λ u h. sum_same 8 _ _ (λ v l. ap (λ z. cosine u n *ℤ cosine v k *ℤ z) (coefficient_ends xs u v))))
+once_ends half d xs n k = sym (unrounded_rows half d xs n k) ∙ twice_ends 0 1 half d xs n k ∙ unrounded_rows half d (map limited xs) n k

@@ -1,5 +1,6 @@
 pub mod Sums
 pub mod Factors
+pub mod Blocks
 pub mod Inverse
 pub mod Passes
 pub mod Signs

@@ -1,6 +1,7 @@
 // From the levels of a block, by zigzag position, to its coefficients, by place.
-ghost use Rattle.std.specs.Prelude.{◌≡◌, ◌^◌, ◌<◌};
-ghost use Rattle.transform.specs.Coefficients.{block_coefficients, coefficient_at, from_level};
+ghost use Rattle.std.specs.Prelude.{◌≡◌, ◌<◌, pos, negsuc, ◌≤ℤ◌};
+ghost use Rattle.transform.specs.Blocks.{Gives};
+ghost use Rattle.transform.specs.Coefficients.{block_coefficients, from_level};
 ghost use Rattle.transform.specs.Inverse.{limited};
 ghost use Rattle.transform.specs.Levels.{dequantized, first_coefficient, rebuilt_size};
 ghost use Rattle.transform.specs.Signs.{with_sign};
@@ -18,18 +19,18 @@ const POSITIONS: [[u8; 8]; 8] = [
     [35, 36, 48, 49, 57, 58, 62, 63],
 ];
 
+// place < 64 stays a condition: to go over the table's rows instead would need a flat table, which the layout puts one number to a line
 fn position(place: usize) -> usize
     requires { place < 64 }
     ensures value { result ≡ position_of place }
     ensures inside { result < 64 }
 {
-    POSITIONS[place / 8][place % 8] as usize
+    usize::from(POSITIONS[place / 8][place % 8])
 }
 
 // The size of the coefficient for a level of this size.
 fn rebuilt_size(quantizer: u8, level: u8) -> u32
-    ensures value { result ≡ rebuilt_size quantizer level }
-    ensures bound { result < 2 ^ 31 }
+    ensures { result ≡ rebuilt_size quantizer level }
 {
     if level == 0 {
         return 0;
@@ -42,29 +43,27 @@ fn rebuilt_size(quantizer: u8, level: u8) -> u32
     }
 }
 
-// A size with the sign of a level.
-fn with_sign(level: i8, size: u32) -> i32
-    requires { size < 2 ^ 31 }
-    ensures { result ≡ with_sign level size }
+// A size with the sign of a number.
+pub fn with_sign(number: i8, size: u32) -> i64
+    ensures { result ≡ with_sign number size }
 {
-    if level < 0 {
-        -(size as i32)
-    } else {
-        size as i32
-    }
+    let size = i64::from(size);
+    if number < 0 { -size } else { size }
 }
 
-fn limit(coefficient: i32) -> i16
-    ensures { result ≡ limited coefficient }
+// A coefficient, brought into -2048 to 2047.
+pub(crate) fn limit(coefficient: i64) -> i64
+    ensures value { result ≡ limited coefficient }
+    ensures range { (negsuc 2047 ≤ℤ result) × (result ≤ℤ pos 2047) }
 {
-    coefficient.clamp(-2048, 2047) as i16
+    coefficient.clamp(-2048, 2047)
 }
 
 // The coefficient for a level, from -2048 to 2047.
 pub fn dequantize(quantizer: u8, level: i8) -> i16
     ensures { result ≡ dequantized quantizer level }
 {
-    limit(with_sign(level, rebuilt_size(quantizer, level.unsigned_abs())))
+    limit(with_sign(level, rebuilt_size(quantizer, level.unsigned_abs()))) as i16
 }
 
 // The first coefficient of an INTRA block, from its code.
@@ -78,29 +77,16 @@ pub fn first_coefficient(code: u8) -> i16
     }
 }
 
-// The coefficient of the level that belongs to a place.
-fn from_level(quantizer: u8, levels: &[i8; 64], place: usize) -> i16
-    requires { place < 64 }
-    ensures { result ≡ from_level quantizer levels.now place }
+// The coefficients of the levels at all positions, by place.
+fn from_levels(quantizer: u8, levels: &[i8; 64]) -> [i16; 64]
+    ensures { Gives result (from_level quantizer levels.now) }
 {
-    dequantize(quantizer, levels[position(place)])
-}
-
-// The coefficient at a place: the first has a code of its own in an INTRA block.
-fn coefficient_at(quantizer: u8, dc: Option<u8>, levels: &[i8; 64], place: usize) -> i16
-    requires { place < 64 }
-    ensures { result ≡ coefficient_at quantizer dc levels.now place }
-{
-    match dc {
-        Some(code) => {
-            if place == 0 {
-                first_coefficient(code)
-            } else {
-                from_level(quantizer, levels, place)
-            }
-        }
-        None => from_level(quantizer, levels, place),
+    let mut out = [0; 64];
+    // `array::from_fn` was slower in the passes of the transform; here it was not timed
+    for (place, coefficient) in out.iter_mut().enumerate() {
+        *coefficient = dequantize(quantizer, levels[position(place)]);
     }
+    out
 }
 
 // The 64 coefficients of a block, the one u across and v down at 8×v + u, from its levels by zigzag position. In an INTRA block the first
@@ -108,9 +94,9 @@ fn coefficient_at(quantizer: u8, dc: Option<u8>, levels: &[i8; 64], place: usize
 pub fn coefficients(quantizer: u8, dc: Option<u8>, levels: &[i8; 64]) -> [i16; 64]
     ensures { result ≡ block_coefficients quantizer dc levels.now }
 {
-    let mut out = [0; 64];
-    for place in 0..64 {
-        out[place] = coefficient_at(quantizer, dc, levels, place);
+    let mut out = from_levels(quantizer, levels);
+    if let Some(code) = dc {
+        out[0] = first_coefficient(code);
     }
     out
 }

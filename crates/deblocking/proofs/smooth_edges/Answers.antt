@@ -2,19 +2,19 @@ use Rattle.std.proofs.Common.{◌&&◌, eqb, ltb, sym, refl, ap, ◌∙◌, arit
 use Rattle.std.proofs.lemmas.Bool.{and_parts}
 use Rattle.pictures.specs.Pictures.{painted}
 use Rattle.pictures.proofs.Painting.{none, alike, planes_none, planes_more, planes_all}
-use Rattle.deblocking.specs.Edges.{edges_in, quantizer_at, smoothed, turn}
+use Rattle.deblocking.specs.Edges.{edges_in, quantizer_at, smoothed, is_vertical, turn}
 use Rattle.deblocking.proofs.Edges.{then_smoothed, apart_planes, inside_says, turned_twice}
 use Rattle.deblocking.proofs.smooth_edges.Goals as goal
 
 pub loop-plane-init : goal.loop-plane-init
-loop-plane-init g c = none _ _ _ (λ q u v. planes_none (edges_in c.turned_segment-inner.result q u v) q)
+loop-plane-init g c = none _ _ _ (λ q u v. planes_none (edges_in c.turn_segment-inner.result q u v) q)
 
 pub loop-plane-preserved : goal.loop-plane-preserved
 loop-plane-preserved g c =
-    let t = c.args.turned in
+    let t = is_vertical c.args.direction in
     let p = c.loop-plane.plane in
-    let s = c.turned_segment-inner.result in
-    let k = quantizer_at c.args.marks.now c.columns-columns.result t in
+    let s = c.turn_segment-inner.result in
+    let k = quantizer_at c.args.cells.now c.columns-columns.result t in
     then_smoothed (λ q u v. ltb q p && edges_in s q u v) (λ q u v. eqb p q && edges_in s q u v) _ k k
     (turn t (g.S.Store.picture c.args.store.now)) (turn t (g.S.Store.picture c.loop-plane.store)) _
     c.loop-plane.invariant c.smooth_plane.ensures
@@ -24,12 +24,12 @@ loop-plane-preserved g c =
 
 pub returns : goal.returns
 returns g c =
-    let t = c.args.turned in
+    let t = is_vertical c.args.direction in
     let f = g.S.Store.picture c.args.store.now in
-    let s = c.turned_segment-inner.result in
-    let k = quantizer_at c.args.marks.now c.columns-columns.result t in
+    let s = c.turn_segment-inner.result in
+    let k = quantizer_at c.args.cells.now c.columns-columns.result t in
     sym (turned_twice t _)
     ∙ ap (turn t) (c.loop-plane.invariant
     ∙ alike _ (edges_in s) (smoothed k (turn t f).sample) (turn t f) (λ q u v h. planes_all (turn t f) (edges_in s q u v) c.loop-plane.plane q u v (omega arith) h))
-    ∙ ap (λ m. turn t (painted (edges_in s) (smoothed (quantizer_at c.args.marks.now m t) (turn t f).sample) (turn t f))) c.columns-columns.ensures
-    ∙ ap (λ m. turn t (painted (edges_in m) (smoothed (quantizer_at c.args.marks.now f.wide t) (turn t f).sample) (turn t f))) c.turned_segment-inner.ensures
+    ∙ ap (λ m. turn t (painted (edges_in s) (smoothed (quantizer_at c.args.cells.now m t) (turn t f).sample) (turn t f))) c.columns-columns.ensures
+    ∙ ap (λ m. turn t (painted (edges_in m) (smoothed (quantizer_at c.args.cells.now f.wide t) (turn t f).sample) (turn t f))) c.turn_segment-inner.ensures

@@ -31,5 +31,5 @@ returns g c =
       law = law;
     }
 
-pub returns-in-Err : goal.returns-in-Err
-returns-in-Err g c = record { runs = search rules; format = refl; size = refl; law = law }
+pub returns-in_default : goal.returns-in_default
+returns-in_default g c = record { runs = search rules; format = refl; size = refl; law = law }

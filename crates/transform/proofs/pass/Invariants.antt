@@ -1,6 +1,7 @@
-use Rattle.std.proofs.Common.{◌≡◌, ℕ, ◌^◌, ◌<◌, length, get_or, pos}
+use Rattle.std.proofs.Common.{◌^◌}
 use Rattle.transform.specs.Passes.{passed}
+use Rattle.transform.proofs.Fill.{Filled}
 use Rattle.transform.proofs.pass.Given as goal
 
 abbrev pub invariant-loop-p : goal.invariant-loop-p
-invariant-loop-p l = (length l.out ≡ 64) × ((k : ℕ) → k < l.p → get_or l.out k (pos 0) ≡ passed l.x l.half (2 ^ l.shift) k)
+invariant-loop-p l = Filled (passed l.x l.quotient.half (2 ^ l.quotient.shift)) l.p l.place-items

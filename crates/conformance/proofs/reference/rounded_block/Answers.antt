@@ -1,15 +1,24 @@
-use Rattle.std.proofs.Common.{ℕ, ◌+◌, ◌<◌, ◌≢◌, List, length, get_or, set, ℤ, pos, ◌≤ℤ◌, sym, subst, arith, length-set, get_or-set_other, get_or-set_same, to_z-of_z, w16, to_z, of_z, below_more}
+use Rattle.std.proofs.Common.{◌≡◌, ℕ, zero, suc, ◌+◌, ◌<◌, ◌≤◌, List, get_or, ℤ, pos, ◌≤ℤ◌, sym, ap, ◌∙◌, subst, arith, rules}
+use native.Mathlib.Decide.{ℕ_discrete}
+use denote.Param.Members.{Mut, Called}
+use Rattle.std.specs.Array.{MapsFrom, IsMapOf}
 use Rattle.conformance.proofs.reference.rounded_block.Goals as goal
 
--- what holds of the elements before i, and of v, holds before i + 1 once v stands at i
-one_more : (P : ℤ → Type 0) (xs : List ℤ) (i : ℕ) (v : ℤ) → i < length xs → ((k : ℕ) → k < i → P (get_or xs k (pos 0))) → P v → (k : ℕ) → k < i + 1 → P (get_or (set xs i v) k (pos 0))
-one_more P xs i v lt below here =
-    below_more (λ k. P (get_or (set xs i v) k (pos 0))) i (λ k h. let ne : k ≢ i = omega arith in rw get_or-set_other (below k h)) (rw get_or-set_same here)
+-- calls that keep J, where J lets each give a number of P
+module _ {F A : Type 0} (g : Mut F (A × Unit {0}) ℤ) (J : F → Type 0) (P : ℤ → Type 0) (step : (s t : F) (x : A) (y : ℤ) → Called g s (x, tt) y t → J s → P y × J t) where
+  from_on : (xs : List A) (ys : List ℤ) (n i : ℕ) (s : F) → MapsFrom g s xs ys i n → J s → (p : ℕ) → i ≤ p → p < i + n → P (get_or ys p (pos 0))
+  from_on xs ys zero i s m j p le lt = absurd (omega arith)
+  from_on xs ys (suc n) i s (t, x, y, there, at, call, rest) j p le lt =
+      let here = step s t x y call j in
+      elim (ℕ_discrete p i) [
+        | yes e ↦ subst P (sym (ap (λ k. get_or ys k (pos 0)) e ∙ at.1 (pos 0))) here.0
+        | no ne ↦ from_on xs ys n (i + 1) t rest here.1 p (omega arith) (omega arith)
+      ]
 
-pub loop-p-preserved : goal.loop-p-preserved
-loop-p-preserved c =
-    let P : ℤ → Type 0 = λ z. (to_z w16 (of_z w16 c.args.low) ≤ℤ z) × (z ≤ℤ to_z w16 (of_z w16 c.args.high)) in (
-      simp length-set c.loop-p.invariant.0,
-      one_more P c.loop-p.out c.loop-p.p _ (omega arith) c.loop-p.invariant.1
-          (subst P (sym (to_z-of_z {w = w16} (record { sfits = c.rounded.type_inv }))) c.rounded.ensures),
-    )
+  each : (xs : List A) (ys : List ℤ) (s : F) → IsMapOf g s xs ys 64 → J s → (p : ℕ) → p < 64 → P (get_or ys p (pos 0))
+  each xs ys s m j p h = from_on xs ys 64 0 s m.each j p (omega arith) h
+
+pub returns : goal.returns
+returns c =
+    each _ (λ s. (s.0.now ≡ c.args.low) × (s.1.now ≡ c.args.high)) (λ z. (c.args.low ≤ℤ z) × (z ≤ℤ c.args.high)) (λ s t x y call j. search rules) _ _ _
+    c.map.ensures.items (search rules, search rules)

@@ -7,6 +7,6 @@ pub returns-then-column-from : goal.returns-then-column-from
 unfolding in_grid
 returns-then-column-from c = record { value = grind (arith, nat_tests); few = grind (arith, nat_tests) }
 
-pub returns : goal.returns
+pub returns-else-column-from : goal.returns-else-column-from
 unfolding in_grid
-returns c = record { value = grind (arith, nat_tests); few = grind (arith, nat_tests) }
+returns-else-column-from c = record { value = grind (arith, nat_tests); few = grind (arith, nat_tests) }

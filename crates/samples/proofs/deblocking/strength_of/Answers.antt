@@ -1,4 +1,4 @@
-use Rattle.std.proofs.Common.{◌≡◌, ℕ, ◌/◌, ◌%◌, ◌<◌, eqb, [], ◌∷◌, get_or, sym, eqb→eq}
+use Rattle.std.proofs.Common.{◌≡◌, ℕ, ◌/◌, ◌%◌, ◌<◌, eqb, [], ◌∷◌, get_or, sym, ap, ◌∙◌, arith, eqb→eq}
 use Rattle.std.proofs.lemmas.List.{get_or_past}
 use Rattle.transform.proofs.Finite.{below}
 use Rattle.samples.specs.Deblocking.{strengths, strength_of}
@@ -16,10 +16,10 @@ entry q =
 entry_is : (q : ℕ) → q < 32 → entry q ≡ get_or strengths q 0
 entry_is q h = eqb→eq _ _ (below 32 (λ k. eqb (entry k) (get_or strengths k 0)) tt q h)
 
-pub returns-then-quantizer-lt32 : goal.returns-then-quantizer-lt32
+pub returns-then-at-lt32 : goal.returns-then-at-lt32
 unfolding strength_of
-returns-then-quantizer-lt32 c = entry_is c.args.quantizer c.if-quantizer-lt32.true
+returns-then-at-lt32 c = entry_is c.from-at.result c.if-at-lt32.true ∙ ap (λ q. get_or strengths q 0) c.from-at.ensures
 
-pub returns-else-quantizer-lt32 : goal.returns-else-quantizer-lt32
+pub returns-else-at-lt32 : goal.returns-else-at-lt32
 unfolding strength_of
-returns-else-quantizer-lt32 c = sym (get_or_past strengths c.args.quantizer 0 c.if-quantizer-lt32.false)
+returns-else-at-lt32 c = sym (get_or_past strengths c.args.quantizer 0 (omega (arith, c.from-at.ensures)))

@@ -1,16 +1,10 @@
-use Rattle.std.proofs.Common.{◌≤◌, length, drop, ap, ◌∙◌, arith, length-drop, rules}
+use Rattle.std.proofs.Common.{length, ap, arith, length-drop, rules}
 use Rattle.std.proofs.lemmas.List.{take_rest}
-use Rattle.script.specs.declared.fields.Stop.TheVariants.{LineFeed}
-use Rattle.script.specs.Fields.{stops_at}
+use Rattle.script.specs.Fields.{is_line_feed}
 use Rattle.script.proofs.Spans.{from_on_le}
 use Rattle.script.proofs.fields.split_line.Goals as goal
 
-pub returns-in-len1-up : goal.returns-in-len1-up
-returns-in-len1-up c =
-    let some : 1 ≤ length c.split.result.1.now = search rules in
-    let all = from_on_le (stops_at LineFeed) c.args.bytes.now in
-    record {
-      front = c.split.ensures.front;
-      back = take_rest c.split.result.1.now 1 ∙ ap (drop 1) c.split.ensures.back;
-      falls = λ h. simp (take_rest, length-drop) (omega (arith, all, ap length c.split.ensures.back, some));
-    }
+pub returns-in-len1-up-clause-falls : goal.returns-in-len1-up-clause-falls
+returns-in-len1-up-clause-falls c =
+    let all = from_on_le is_line_feed c.args.bytes.now in
+    λ h. simp (take_rest, length-drop) (omega (arith, all, ap length (c.split_at_first.ensures.back is_line_feed (search rules)), c.in-len1-up.len_at_least))

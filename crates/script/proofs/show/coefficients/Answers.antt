@@ -1,15 +1,10 @@
-use Rattle.std.proofs.Common.{◌≡◌, length, arith, rules}
-use Rattle.script.proofs.Counts.{block_more, blocks_end}
+use Rattle.std.proofs.Common.{◌≡◌, ◌^◌, length, arith, rules}
+use Rattle.std.proofs.lemmas.Iterator.{YieldsList-from_slice}
+use Rattle.std.proofs.lemmas.Iterator.Adapters.{at_most_from_yields_List, fits_from_length}
 use Rattle.script.proofs.show.coefficients.Goals as goal
 
-pub loop-block-preserved : goal.loop-block-preserved
-loop-block-preserved c =
-    let six : length c.args.blocks.now ≡ 6 = search rules in (
-      block_more _ _ c.loop-block.block-index c.loop-block.count _ (omega (arith, six)) c.coefficients_in-count.ensures.count c.loop-block.invariant.0,
-      omega (arith, c.coefficients_in-count.ensures.few, c.loop-block.invariant.1),
-    )
-
-pub returns : goal.returns
-returns c =
+-- at most 64 of each of the six
+pub sum-requires-clause-fits : goal.sum-requires-clause-fits
+sum-requires-clause-fits c =
     let six : length c.args.blocks.now ≡ 6 = search rules in
-    blocks_end _ c.loop-block.block-index _ (omega (arith, six)) c.loop-block.invariant.0
+    fits_from_length _ _ 6 (2 ^ 64) (at_most_from_yields_List (YieldsList-from_slice c.args.blocks.now cc) (omega (arith, six))) c.map.ensures.closure (omega arith) (λ x r q k. search rules)

@@ -6,4 +6,4 @@ use Rattle.transform.proofs.levels.limit.Goals as goal
 
 pub returns : goal.returns
 unfolding limited brought
-returns c = omega (arith, ints, clamps)
+returns c = record { value = omega (arith, ints, clamps); range = (omega (arith, ints, clamps), omega (arith, ints, clamps)) }

@@ -6,9 +6,9 @@ one_more : (n state : ℕ) → stepped (stepped_by n state) ≡ stepped_by (n + 
 unfolding stepped_by
 one_more n state = let e : suc n ≡ n + 1 = omega arith in ap (λ k. stepped_by k state) e
 
-pub loop-p-init : goal.loop-p-init
+pub loop-sample-init : goal.loop-sample-init
 unfolding stepped_by
-loop-p-init c = refl
+loop-sample-init c = refl
 
-pub loop-p-preserved : goal.loop-p-preserved
-loop-p-preserved c = c.draw.ensures.state ∙ ap stepped c.loop-p.invariant ∙ one_more c.loop-p.p c.args.self.now.state
+pub loop-sample-preserved : goal.loop-sample-preserved
+loop-sample-preserved c = c.draw.ensures.state ∙ ap stepped c.loop-sample.invariant ∙ one_more c.loop-sample.sample-index c.args.self.now.state

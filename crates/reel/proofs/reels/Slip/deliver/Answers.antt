@@ -1,4 +1,4 @@
-use Rattle.std.proofs.Common.{◌≡◌, ◌<◌, Ok, Err, vec_len, sym, refl, ap, ◌∙◌, arith}
+use Rattle.std.proofs.Common.{◌≡◌, ◌<◌, Ok, Err, length, sym, refl, ap, ◌∙◌, arith}
 use Rattle.pictures.specs.declared.layouts.Segment.{Segment}
 use Rattle.pictures.proofs.Rows.{segmented}
 use Rattle.rebuild.specs.Rebuilt.{accepted, count_of}
@@ -15,7 +15,7 @@ pub returns-in-Err : goal.returns-in-Err
 returns-in-Err g c =
     let held = held_in g.S.Store.picture c.args.memory.now in
     let e : judged c.args.self held c.args.segment c.args.bytes.now ≡ Err c.in-Err.fault
-    = delivery_refused c.args.self held c.args.segment c.args.bytes.now c.fits.result c.fits.ensures c.in-Err.fault c.in-Err.ensures in
+    = delivery_refused c.args.self held c.args.segment c.args.bytes.now c.in-Err.fault c.in-Err.ensures in
     record { slip = rw e refl; answer = rw e refl; memory = rw e refl; format = refl; size = refl }
 
 pub rebuild_in-requires : goal.rebuild_in-requires
@@ -23,41 +23,44 @@ rebuild_in-requires g c =
     let slip = c.args.self in
     let was = c.args.memory.now in
     let held = held_in g.S.Store.picture was in
-    let told = delivery_granted slip held c.args.segment c.args.bytes.now c.fits.result c.fits.ensures c.in-Ok.counts c.in-Ok.ensures in
-    let size = fitting slip.format held told.fitting in
-    let laws = segmented slip.format slip.layout in
+    let told = delivery_granted slip held c.args.segment c.args.bytes.now c.in-Ok.counts c.in-Ok.ensures in
+    let size = fitting slip.reel.format held told.fitting in
+    let laws = segmented slip.reel.format slip.layout in
     let is = c.segment-rectangle.ensures.value in
     let within = c.segment-rectangle.ensures.within in
     let P : Segment → Type 0 = λ s. (s.left < s.right) × (s.top < s.bottom) in
-    let some : P c.segment-rectangle.result = rw is (some_column slip.format, laws.some_row c.args.segment told.numbered) in
+    let some : P c.segment-rectangle.result = rw is (some_column slip.reel.format, laws.some_row c.args.segment told.numbered) in
     record {
-      bounds = (some.0, (within.1.0, (some.1, omega (arith, within.1.1.1))));
+      some_columns = some.0;
+      few_columns = within.1.0;
+      some_rows = some.1;
+      few_rows = omega (arith, within.1.1.1);
       accepted = rw is told.readable;
-      finished = rw is (room slip.format _ (vec_len was.finished_ages) (laws.in_picture c.args.segment) (was.finished_ages.ok.0 ∙ size.finished_ages));
-      ages = rw is (room slip.format _ (vec_len was.working_ages) (laws.in_picture c.args.segment) (was.working_ages.ok.0 ∙ size.working_ages));
-      vectors = rw is (room slip.format _ (vec_len was.vectors) (laws.in_picture c.args.segment) (was.vectors.ok.0 ∙ size.vectors));
-      marks = rw is (room slip.format _ (vec_len was.marks) (laws.in_picture c.args.segment) (was.marks.ok.0 ∙ size.marks));
+      room = rw is (record {
+        of_finished = room slip.reel.format _ (length was.finished_ages.items) (laws.in_picture c.args.segment) size.finished_ages;
+        of_ages = room slip.reel.format _ (length was.working_ages.items) (laws.in_picture c.args.segment) size.working_ages;
+        of_vectors = room slip.reel.format _ (length was.vectors.items) (laws.in_picture c.args.segment) size.vectors;
+        of_marks = room slip.reel.format _ (length was.marks.items) (laws.in_picture c.args.segment) size.marks;
+      });
     }
 
 pub with_mark-requires : goal.with_mark-requires
 with_mark-requires g c =
     let slip = c.args.self in
     let held = held_in g.S.Store.picture c.args.memory.now in
-    let told = delivery_granted slip held c.args.segment c.args.bytes.now c.fits.result c.fits.ensures c.in-Ok.counts c.in-Ok.ensures in
-    few_segments slip.format slip.layout c.args.segment told.numbered
+    let told = delivery_granted slip held c.args.segment c.args.bytes.now c.in-Ok.counts c.in-Ok.ensures in
+    few_segments slip.reel.format slip.layout c.args.segment told.numbered
 
 pub returns : goal.returns
 returns g c =
     let slip = c.args.self in
     let held = held_in g.S.Store.picture c.args.memory.now in
-    let told = delivery_granted slip held c.args.segment c.args.bytes.now c.fits.result c.fits.ensures c.in-Ok.counts c.in-Ok.ensures in
+    let told = delivery_granted slip held c.args.segment c.args.bytes.now c.in-Ok.counts c.in-Ok.ensures in
     let e = told.judgement in
     let s = c.segment-rectangle.ensures.value in
     record {
       slip = rw e (ap (λ n. record {
-        format = slip.format;
-        pictures = slip.pictures;
-        finished = slip.finished;
+        reel = slip.reel;
         kind = slip.kind;
         rounding = slip.rounding;
         layout = slip.layout;
@@ -70,7 +73,7 @@ returns g c =
           ∙ ap (λ (x : Segment). segment_rebuilt (g.T.Transform.meaning c.args.transform.now) x slip.rounding (accepted slip.kind (count_of x) c.args.bytes.now) held) s);
       format = refl;
       size =
-          ap (fits slip.format) (c.rebuild_in.ensures
+          ap (fits slip.reel.format) (c.rebuild_in.ensures
           ∙ ap (λ (x : Segment). segment_rebuilt (g.T.Transform.meaning c.args.transform.now) x slip.rounding (accepted slip.kind (count_of x) c.args.bytes.now) held) s
           ∙ sym (ap (λ v. held_after (g.T.Transform.meaning c.args.transform.now) slip c.args.segment v held) e))
           ∙ size_delivered (g.T.Transform.meaning c.args.transform.now) slip held c.args.segment c.args.bytes.now;

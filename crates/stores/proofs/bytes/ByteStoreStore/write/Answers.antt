@@ -4,17 +4,17 @@ use Rattle.stores.specs.Bytes.{byte_address, byte_at}
 use Rattle.stores.proofs.InBytes.{bytes_apart, byte_set}
 use Rattle.stores.proofs.bytes.ByteStoreStore.write.Goals as goal
 
-pub returns-in-Some : goal.returns-in-Some
-returns-in-Some c =
+pub returns : goal.returns
+returns c =
     let bytes = vec_items c.args.self.now.memory in
     let found = c.in-Some.ensures in
-    let lt : c.in-Some.at < length bytes = omega (arith, c.args.self.now.memory.ok.0, c.args.self.now.enough, found.2) in
+    let lt : c.in-Some.at < length bytes = omega (arith, c.args.self.now.memory.ok.0, c.args.self.now.enough, found.kept) in
     record {
-      answer = sym found.0;
-      after = writes _ _ (byte_address c.args.self.now.columns c.args.self.now.rows) (bytes_apart _ _) (byte_at bytes) (byte_at (set bytes c.in-Some.at c.args.value)) c.args.plane c.args.across c.args.down c.args.value found.0 (λ a. rw (← found.1) (byte_set bytes c.in-Some.at c.args.value (omega (arith, c.ranges.value)) lt a));
+      answer = sym found.isin;
+      after = writes _ _ (byte_address c.args.self.now.size.columns c.args.self.now.size.rows) (bytes_apart _ _) (byte_at bytes) (byte_at (set bytes c.in-Some.at c.args.value)) c.args.plane c.args.across c.args.down c.args.value found.isin (λ a. rw (← found.from) (byte_set bytes c.in-Some.at c.args.value (omega (arith, c.ranges.value)) lt a));
     }
 
-pub returns-in-None : goal.returns-in-None
-returns-in-None c =
-    let out = c.in-None.ensures in
+pub returns-in_default : goal.returns-in_default
+returns-in_default c =
+    let out = c.in_default.ensures in
     record { answer = sym out; after = writes_nothing _ c.args.plane c.args.across c.args.down c.args.value out }

@@ -11,7 +11,7 @@ returns-in-Some c =
     let lt : w < length (vec_items mine.memory) = omega (arith, mine.memory.ok.0, mine.enough, at.kept) in
     record {
       next = (omega arith, at.ends);
-      after = word_filled mine.columns mine.rows c.args.plane c.args.across c.args.down c.args.right w
+      after = word_filled mine.size.columns mine.size.rows c.args.plane c.args.across c.args.down c.args.right w
           (vec_items mine.memory) c.from_be_bytes.result c.args.value at lt (omega (arith, c.ranges.value)) c.from_be_bytes.ensures;
     }
 

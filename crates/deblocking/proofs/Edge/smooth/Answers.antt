@@ -1,0 +1,52 @@
+use Rattle.std.proofs.Common.{◌≡◌, ℕ, ◌+◌, ◌*◌, ◌/◌, ◌<◌, ◌≤◌, max, sym, ap, ◌∙◌, arith}
+use Rattle.pictures.specs.Pictures.{side}
+use Rattle.pictures.proofs.Painting.{none, alike}
+use Rattle.deblocking.specs.Edges.{edge, edge_mark, edges, quantizer_at, is_vertical, turn}
+use Rattle.deblocking.proofs.Edges.{then_smoothed, none_along, more_along, apart_along, until_along, says, by_side}
+use Rattle.deblocking.proofs.Edge.smooth.Goals as goal
+
+-- macroblocks and the samples along them
+up : (p a b : ℕ) → a ≤ b → a * side p ≤ b * side p
+up p a b h = by_side (λ s. a * s ≤ b * s) p (omega arith) (omega arith)
+
+up_max : (p a b n : ℕ) → n ≤ max a b → n * side p ≤ max (a * side p) (b * side p)
+up_max p a b n h = by_side (λ s. n * s ≤ max (a * s) (b * s)) p (omega arith) (omega arith)
+
+whose : (p n u : ℕ) → n * side p ≤ u → u < (n + 1) * side p → u / side p ≡ n
+whose p n u = by_side (λ s. n * s ≤ u → u < (n + 1) * s → u / s ≡ n) p (λ h i. omega arith) (λ h i. omega arith)
+
+pub loop-along-init : goal.loop-along-init
+loop-along-init g c = (none _ _ _ (none_along _ _ _ _), omega arith)
+
+pub loop-along-preserved : goal.loop-along-preserved
+loop-along-preserved g c =
+    let t = is_vertical c.args.self.direction in
+    let p = c.args.self.plane in
+    let low = c.args.left * side p in
+    let n = c.args.self.number in
+    let x = c.loop-along.along in
+    let k = quantizer_at c.args.marks.cells.now c.args.marks.columns t in (
+      then_smoothed (edges p low (x * side p) n (n + 1)) (edges p (x * side p) ((x + 1) * side p) n (n + 1)) _ k (λ _ _ _. c.mark-mark.result)
+          (turn t (g.S.Store.picture c.args.store.now)) (turn t (g.S.Store.picture c.loop-along.store)) _
+          c.loop-along.invariant.0 c.smooth_marked.ensures
+          (λ q u v. more_along p low (x * side p) ((x + 1) * side p) n (n + 1) q u v (up p _ _ c.loop-along.auto.along) (up p x (x + 1) (omega arith)))
+          (λ q u v j e m. apart_along p low (x * side p) ((x + 1) * side p) n q u v j e m)
+          (λ q u v e. let w = says p (x * side p) ((x + 1) * side p) n q u v e in
+          let there : u / side p ≡ x = whose p x u w.1 w.2 in (
+            w.3,
+            omega (arith, w.4),
+            c.mark-mark.ensures
+                ∙ ap (λ m. edge_mark c.args.marks.cells.now c.args.marks.columns t (side p) m n) (sym there)
+                ∙ ap (λ m. k p u m) (sym w.4)
+                ∙ ap (λ m. k m u (edge v)) w.0,
+          )),
+      omega (arith, c.loop-along.invariant.1),
+    )
+
+pub returns : goal.returns
+returns g c =
+    let p = c.args.self.plane in
+    let x = c.loop-along.along in
+    c.loop-along.invariant.0
+    ∙ alike _ _ _ _ (λ q u v h. until_along p (c.args.left * side p) (c.args.right * side p) (x * side p) _ _ q u v
+    (up p _ _ c.loop-along.auto.along) (up p _ _ (omega arith)) (up_max p _ _ _ c.loop-along.invariant.1))

@@ -1,6 +1,0 @@
-use Rattle.std.proofs.Common.{length}
-use Rattle.desktern.proofs.answer_script.Given as goal
-
--- each line takes bytes away
-abbrev pub decreases-loop-rest : goal.decreases-loop-rest
-decreases-loop-rest l = length l.rest

@@ -1,8 +1,0 @@
-use Rattle.std.proofs.Common.{◌≡◌, ◌&&◌, ltb}
-use Rattle.pictures.specs.Pictures.{covers, painted}
-use Rattle.pictures.proofs.sweeps.fill_segment.Given as goal
-
--- the planes before this one are painted
-abbrev pub invariant-loop-plane : goal.invariant-loop-plane
-invariant-loop-plane g l =
-    g.S.Store.picture l.store ≡ painted (λ q u v. ltb q l.plane && covers l.segment q u v) (λ _ _ _. l.value) (g.S.Store.picture l.initial.store)

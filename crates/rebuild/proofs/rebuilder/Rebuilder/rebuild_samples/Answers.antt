@@ -1,0 +1,56 @@
+use Rattle.std.proofs.Common.{◌≡◌, ◌+◌, ◌-◌, ◌*◌, ◌≤◌, drop, sym, refl, ap, ◌∙◌, mul-le-mul_right, zero-mul, arith, length-drop}
+use Rattle.std.proofs.lemmas.Nat.{mul-le}
+use Rattle.std.proofs.lemmas.List.{drop-drop}
+use Rattle.records.specs.Again.{records_of}
+use Rattle.pictures.proofs.Painting.{alike, both, none}
+use Rattle.samples.specs.Prediction.{rounding_of}
+use Rattle.rebuild.specs.Segments.{cell_at, column_at, samples_by}
+use Rattle.rebuild.proofs.Sixths.{agreeing}
+use Rattle.rebuild.proofs.Rectangles.{no_rows, rectangle, rectangle_covers, row_cells, row_samples, rows_more}
+use Rattle.rebuild.proofs.rebuilder.Rebuilder.rebuild_samples.Goals as goal
+
+pub loop-row-init : goal.loop-row-init
+loop-row-init g c =
+    let s = c.args.self.now.window.segment in
+    let e : (s.top - s.top) * (s.right - s.left) ≡ 0 = let z : s.top - s.top ≡ 0 = omega arith in rw z (zero-mul (s.right - s.left)) in
+    (none _ _ _ (no_rows _ _ _), rw e refl)
+
+pub loop-row-preserved : goal.loop-row-preserved
+loop-row-preserved g c =
+    let a = c.args in
+    let s = a.self.now.window.segment in
+    let row = c.loop-row.row in
+    let records = records_of a.delivery in
+    let first = (row - s.top) * (s.right - s.left) in
+    let new = samples_by (g.T.Transform.meaning a.self.now.transform.now) s (rounding_of a.self.now.window.rounding) (g.S.Store.picture a.self.now.window.finished.now).sample records (drop a.start a.vectors.now) (cell_at s) in
+    let part = samples_by (g.T.Transform.meaning a.self.now.transform.now) s (rounding_of a.self.now.window.rounding) (g.S.Store.picture a.self.now.window.finished.now).sample (records_of c.loop-row.delivery) (drop (a.start + first) a.vectors.now) (column_at s) in (
+      both (rectangle s.left s.right s.top row) (rectangle s.left s.right row (row + 1)) (rectangle s.left s.right s.top (row + 1)) new
+          _ (g.S.Store.picture c.loop-row.working) (g.S.Store.picture c.rebuild_row.new.working) c.loop-row.invariant.0
+          (c.rebuild_row.ensures.samples
+          ∙ alike _ (rectangle s.left s.right row (row + 1)) part (g.S.Store.picture c.loop-row.working) (λ q u v h. sym (rectangle_covers (g.S.Store.picture c.loop-row.working) (record { left = s.left; right = s.right; top = row; bottom = row + 1 }) q u v h))
+          ∙ agreeing _ part new (g.S.Store.picture c.loop-row.working) (λ q u v e. row_samples _ s _ _ records _ (drop a.start a.vectors.now) _ row first q u v refl c.loop-row.invariant.1 (sym (drop-drop first a.start a.vectors.now)) e))
+          (λ q u v. rows_more s.left s.right s.top row q u v c.loop-row.auto.row),
+      c.rebuild_row.ensures.records ∙ ap (drop (s.right - s.left)) c.loop-row.invariant.1 ∙ drop-drop (s.right - s.left) first records ∙ ap (λ k. drop k records) (row_cells row s.top (s.right - s.left) c.loop-row.auto.row),
+    )
+
+pub returns : goal.returns
+returns g c =
+    let s = c.args.self.now.window.segment in
+    let end : c.loop-row.row ≡ s.bottom = omega (arith, c.loop-row.auto) in
+    rw end at c.loop-row.invariant.0 ∙ alike _ _ _ _ (λ q u v h. rectangle_covers (g.S.Store.picture c.args.working.now) s q u v h)
+
+pub rebuild_row-requires : goal.rebuild_row-requires
+rebuild_row-requires g c =
+    let s = c.args.self.now.window.segment in
+    let row = c.loop-row.row in
+    let w = s.right - s.left in
+    let down : row + 1 - s.top ≤ s.bottom - s.top = omega arith in
+    let next = row_cells row s.top w c.loop-row.auto.row in
+    let wide : w ≤ 22 = omega arith in
+    let high : row - s.top ≤ 22 = omega arith in
+    let small = mul-le (row - s.top) w 22 22 high wide in
+    record {
+      row = omega arith;
+      first = omega (arith, small, c.requires.start);
+      records = rw c.loop-row.invariant.1 (simp length-drop (omega (arith, c.requires.records, mul-le-mul_right w down, next)));
+    }
