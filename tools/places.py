@@ -35,6 +35,9 @@ def grep(pattern, strip_comments=True):
 def functions():
     for name in files():
         text = re.sub(r"//[^\n]*", "", open(name).read())
+        # an array's length stands after a semicolon, which would be taken for the end of a function without a body
+        while re.search(r"\[[^\[\]{}]*;[^\[\]{}]*\]", text):
+            text = re.sub(r"\[([^\[\]{}]*);([^\[\]{}]*)\]", r"<\1 by\2>", text)
         for m in re.finditer(r"\bfn (\w+)(<[^(]*>)?\(", text):
             depth, i = 1, m.end()
             while depth:

@@ -52,7 +52,8 @@ impl TryFrom<&[u8]> for TransformKind {
     }
 }
 
-// A line: a choice for the reels to come, a new reel, a call on a reel, or bytes that are to be read as the records of a delivery.
+// A line: a choice for the reels to come, a new reel, a call on a reel, or bytes that are to be read as the records of a delivery. (The numbers are as
+// they were written: the calls refuse what stands for nothing.)
 #[derive(Drop)]
 pub enum Line {
     Store(StoreKind),
@@ -101,7 +102,7 @@ fn numbers<const N: usize>(fields: &[u8]) -> Result<[u32; N], Mistake>
     Ok(numbers)
 }
 
-// The fields after `store`.
+// The fields after `store`. (One function for this and the next would be generic over the choice, and say its result by the bound's relation alone.)
 fn store_line(fields: &[u8]) -> Result<Line, Mistake>
     ensures { result_map meant result ≡ store_of fields.now }
 {
@@ -129,7 +130,7 @@ fn new_line(fields: &[u8]) -> Result<Line, Mistake>
     Ok(Line::New { format })
 }
 
-// The fields after `open`.
+// The fields after `open`. (It and those below differ in the names that they give their numbers.)
 fn open_line(fields: &[u8]) -> Result<Line, Mistake>
     ensures { result_map meant result ≡ open_of fields.now }
 {
@@ -207,7 +208,7 @@ fn plain_line(call: &[u8], fields: &[u8]) -> Result<Line, Mistake>
     }
 }
 
-// A line by its first word.
+// A line by its first word. (No `match` on its bytes, for the reason in `plain_line`.)
 fn worded_line(heap: Global, call: &[u8], fields: &[u8]) -> Result<Line, LineError>
     ensures { Says meant result (worded call.now fields.now) }
 {

@@ -2,7 +2,8 @@
 use crate::faults::PictureFault;
 use records::types::Delivered;
 
-// A call on a reel or on its slip. (Its numbers are the caller's: what stands for no kind, rounding or plane is refused by the call, in its turn.)
+// A call on a reel or on its slip. (Its numbers are the caller's, one by one: what stands for no kind, rounding or plane
+// is refused by the call, in its turn.)
 #[derive(Clone, Copy)]
 pub enum Call<'a> {
     Open {

@@ -4,8 +4,7 @@
 ghost use Rattle.std.specs.Prelude.{◌≡◌, ℕ, ◌+◌, ◌-◌, ◌^◌, min, if◌then◌else◌};
 
 use records::checked::Delivery;
-use records::delivery::check_delivery;
-use records::types::PictureKind;
+use records::types::Delivered;
 use script::fields::lines_of;
 use script::line::{LineError, Records, parse_line};
 use script::show::Record;
@@ -33,17 +32,11 @@ impl Tally {
     }
 }
 
-// Prints the macroblocks of a delivery, or its refusal.
-fn answer_records(
-    rt: &HostRuntime,
-    tally: &mut Tally,
-    kind: PictureKind,
-    macroblocks: usize,
-    bytes: &[u8],
-) -> anyhow::Result<()> {
-    match check_delivery(kind, macroblocks, bytes) {
-        Ok(delivered) => {
-            let delivery = Delivery::new(kind, macroblocks, bytes);
+// Prints the macroblocks of a delivery, or its refusal. (`player` tells the same in its transcript; here each line is printed as it comes.)
+fn answer_records(rt: &HostRuntime, tally: &mut Tally, records: &Records) -> anyhow::Result<()> {
+    let macroblocks = records.macroblocks as usize;
+    match Delivery::checked(records.kind, macroblocks, records.bytes.as_slice()) {
+        Ok((Delivered { words, intra }, delivery)) => {
             for (index, macroblock) in delivery.enumerate() {
                 rt.println(Record {
                     index,
@@ -51,8 +44,6 @@ fn answer_records(
                 })?;
             }
             tally.count(false);
-            let words = delivered.words;
-            let intra = delivered.intra;
             println!(rt; "records ok {words} {intra}")?;
         }
         Err(fault) => {
@@ -73,15 +64,7 @@ fn answer_line(
 ) -> anyhow::Result<()> {
     match parse_line(rt.alloc(), text) {
         Ok(None) => {}
-        Ok(
-            Some(
-                Records {
-                    kind,
-                    macroblocks,
-                    bytes,
-                },
-            ),
-        ) => answer_records(rt, tally, kind, macroblocks as usize, bytes.as_slice())?,
+        Ok(Some(records)) => answer_records(rt, tally, &records)?,
         Err(LineError::Wrong(mistake)) => println!(rt; "error {number}: {mistake}")?,
         Err(LineError::OutOfMemory) => return Err(AllocError.into()),
     }

@@ -1,9 +1,9 @@
 -- A sweep paints places of a picture part by part: how what is painted grows.
-use Rattle.std.proofs.Common.{◌≡◌, ℕ, ◌+◌, ◌*◌, ◌≤◌, max, Bool, true, false, ◌&&◌, ◌||◌, eqb, ltb, leb, unwrap_or, sym, refl, ap, ◌∙◌, ⊎_elim, zero-mul, arith}
+use Rattle.std.proofs.Common.{◌≡◌, ℕ, ◌+◌, ◌*◌, ◌≤◌, max, Bool, true, false, ◌&&◌, ◌||◌, eqb, ltb, leb, sym, refl, ap, ◌∙◌, ⊎_elim, zero-mul, arith}
 use Rattle.std.proofs.lemmas.Bool.{cases_eq, ne_eqb}
 use Rattle.std.proofs.lemmas.Bool.Decides.{nat_tests}
 use Rattle.pictures.specs.declared.layouts.Segment.{Segment}
-use Rattle.pictures.specs.Pictures.{Picture, has, inside, here, span, covers, painted, written, reading, side}
+use Rattle.pictures.specs.Pictures.{Picture, has, inside, here, span, covers, painted, written, side}
 
 -- pictures of one size that agree at each place are one
 pub same_picture : (f g : Picture) → f.wide ≡ g.wide → f.high ≡ g.high → ((q u v : ℕ) → f.sample q u v ≡ g.sample q u v) → f ≡ g
@@ -106,10 +106,6 @@ block_all s p y q u v h i j =
     ap (λ b. eqb p q && (leb (s.left * side p) u && (ltb u (s.right * side p) && b))) (until _ _ y v h i j)
     ∙ ⊎_elim (λ (e : p ≡ q). rw e refl) (λ (e : p ≡ q → ⊥). simp (ne_eqb p q e)) (cases_eq p q)
 
--- one plane more, and all three
-pub planes_none : (b : Bool) (q : ℕ) → (ltb q 0 && b) ≡ false
-planes_none b q = grind (arith, nat_tests)
-
 pub planes_more : (b : Bool) (p q : ℕ) → (ltb q (p + 1) && b) ≡ ((eqb p q && b) || (ltb q p && b))
 planes_more true p q = grind (arith, nat_tests)
 planes_more false p q = grind (arith, nat_tests)
@@ -137,11 +133,3 @@ repainted f g a b out-f out-g = same_picture _ _ (sym a) (sym b) (λ q u v. at q
     at q u v false e =
         let out : has g q u v ≡ false = rw (a, b) e in
         simp e (out-f q u v e ∙ sym (out-g q u v out))
-
--- what is read, and 0 for absence, is the picture's sample
-pub read_or_zero : (f : Picture) (p x y : ℕ) → (has f p x y ≡ false → f.sample p x y ≡ 0) → unwrap_or (reading f p x y) 0 ≡ f.sample p x y
-read_or_zero f p x y out = at (has f p x y) refl
-  where
-    at : (b : Bool) → has f p x y ≡ b → unwrap_or (reading f p x y) 0 ≡ f.sample p x y
-    at true e = simp e
-    at false e = simp e (sym (out e))

@@ -36,12 +36,6 @@ below_bits number n (suc k) lt none = below_bits number n k (lower (cases_lt num
         let c : number / 2 ^ (n + k) % 2 ≡ 1 = omega arith in
         absurd (both_ways _ (none (n + k) (omega arith)) (eq-eqb _ 1 c))
 
--- the least number with a bit at or above the row count fits
-pub limit_fits : (format : Format) → 1 * 2 ^ rows_of format % 4294967296 ≡ 2 ^ rows_of format
-limit_fits SubQcif = refl
-limit_fits Qcif = refl
-limit_fits Cif = refl
-
 -- a layout is sound just when bit 0 is set and no bit at or above the row count
 pub sound_bits : (format : Format) (layout : ℕ) → layout < 2 ^ 32
     → Decides (sound format layout) ((has_bit layout 0 ≡ true) × ((row : ℕ) → rows_of format ≤ row → has_bit layout row ≡ false))

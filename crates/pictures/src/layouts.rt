@@ -14,9 +14,9 @@ pub struct Segment {
     pub bottom: u16,
 }
 
-// Whether a layout has the bit of this number.
+// Whether a number has the bit of this place: a layout, or the marks of a picture's segments. No number has a bit at 32 or above.
 #[tactic(auto, unfolding(crate::specs::Segments::has_bit))]
-fn has_bit(layout: u32, bit: u32) -> bool
+pub fn has_bit(layout: u32, bit: u32) -> bool
     ensures { result ≡ has_bit layout bit }
 {
     match layout.checked_shr(bit) {

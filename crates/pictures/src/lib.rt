@@ -8,7 +8,7 @@ mod sizes;
 mod sweeps;
 
 pub use formats::{Format, UnknownFormat};
-pub use layouts::Segment;
+pub use layouts::{Segment, has_bit};
 pub use planes::{Store, is_inside, side_of, start_of};
 pub use sizes::Size;
 pub use sweeps::{copy_picture, copy_segment, fill_segment};

@@ -34,7 +34,7 @@ pub trait Store {
     }
 
     // Sets one or more of a row's samples from across on, those inside, and answers the place after them. A store that keeps neighbours
-    // together may set them together. (That a place is left before right is the test of the loops that call this: a type for it would say no more.)
+    // together may set them together. (That across is below right is the test of the loops that call this: a type for the two would say no more.)
     fn fill_run(&mut self, plane: u8, across: usize, down: usize, right: usize, value: u8) -> usize
         requires { across < right }
         ensures next { (across < result) × (result ≤ right) }
@@ -108,7 +108,7 @@ pub fn start_of(plane: u8) -> usize
     }
 }
 
-// Whether a place is one of a picture of this size.
+// Whether a place is one of a picture of this size. (For any numbers; `Size::is_inside` asks the same of a size that is a picture's.)
 pub fn is_inside(columns: u16, rows: u16, plane: u8, across: usize, down: usize) -> bool
     ensures { result ≡ inside columns rows plane across down }
 {

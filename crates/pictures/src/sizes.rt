@@ -35,6 +35,7 @@ impl From<Format> for Size {
 }
 
 // No macroblocks.
+// By hand, since no derive makes a type with ghost fields.
 impl Default for Size {
     ghost is_default = { λ size. (size.columns ≡ 0) × (size.rows ≡ 0) };
 

@@ -9,7 +9,7 @@ trait Brush<S: Store> {
     // the samples that it paints, by plane, across and down
     ghost paint: { Self → ℕ → ℕ → ℕ → ℕ };
 
-    // Paints a row's samples from left to before right, those inside, and no others.
+    // Paints a row's samples from left to before right, those inside, and no others. (A row's place is passed as the store's own `fill_row` takes it.)
     fn paint_row(&self, store: &mut S, plane: u8, down: usize, left: usize, right: usize)
         ensures { S.picture store.new ≡ painted (span plane down left right) (paint self.now) (S.picture store.old) };
 }

@@ -7,7 +7,6 @@ use call_lines::line::{Line, Said, StoreKind, TransformKind, read_line};
 use calls::answers::Answer;
 use calls::faults::PictureFault;
 use records::checked::Delivery;
-use records::delivery::check_delivery;
 use reel::reels::Reel;
 use script::fields::lines_of;
 use script::line::Records;
@@ -26,7 +25,7 @@ fn read_lines(heap: Global, script: &[u8]) -> Result<Vec<Said>, AllocError> {
 }
 
 // Makes the calls that some lines gathered. (The seat goes by value from step to step, and not in a struct that is lent: a seat cannot be let go, so none
-// can be put over another.)
+// can be put over another. A struct of the rest would leave each step as many parameters but one.)
 fn make_calls(
     seat: Option<Seat>,
     heap: Global,
@@ -83,14 +82,11 @@ fn tell_ages(seat: &Option<Seat>, transcript: &mut Transcript) {
     }
 }
 
-// Tells the macroblocks of a delivery, or its refusal.
+// Tells the macroblocks of a delivery, or its refusal. (`desktern` prints the same as it comes; only the loop is alike.)
 fn tell_records(records: &Records, transcript: &mut Transcript) {
-    let kind = records.kind;
     let macroblocks = records.macroblocks as usize;
-    let bytes = records.bytes.as_slice();
-    match check_delivery(kind, macroblocks, bytes) {
-        Ok(delivered) => {
-            let delivery = Delivery::new(kind, macroblocks, bytes);
+    match Delivery::checked(records.kind, macroblocks, records.bytes.as_slice()) {
+        Ok((delivered, delivery)) => {
             for (index, macroblock) in delivery.enumerate() {
                 transcript.add(Record {
                     index,
@@ -132,7 +128,7 @@ fn play_line(
     seat
 }
 
-// What a line does to the calls that are gathered before it.
+// What a line does to the calls that are gathered before it: three ways, and none of them is a failure or a lack.
 enum Gathering {
     Joins,
     Ends,

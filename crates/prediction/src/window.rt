@@ -23,7 +23,8 @@ fn is_half(component: i8) -> bool
     half_steps(component) % 2 == 1
 }
 
-// A coordinate moved by the whole samples of a component, 64 above its value.
+// A coordinate moved by the whole samples of a component, 64 above its value. (That it is small is asked of those who call this, one within another; their
+// coordinates are counted in machine words, as the stores take them.)
 fn moved(coordinate: usize, component: i8) -> usize
     requires { coordinate ≤ 65535 }
     ensures value { pos result ≡ pos coordinate +ℤ floor component 2 +ℤ pos 64 }

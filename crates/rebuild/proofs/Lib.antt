@@ -1,6 +1,5 @@
 pub mod Squares
 pub mod Sixths
 pub mod Rectangles
-pub mod Parts
 pub mod Cells
 pub mod Independence

@@ -60,10 +60,10 @@ pub fn rebuild_block<S: Store>(
         segment: window.segment,
         rounding: window.rounding,
     };
-    for n in 0..64 {
+    for (n, residual) in residual.iter().enumerate() {
         let x = left + n % 8;
         let y = top + n / 8;
         let prediction = predicted_sample(&own, source, plane, x, y);
-        set_sample(working, plane, x, y, prediction, residual[n]);
+        set_sample(working, plane, x, y, prediction, *residual);
     }
 }

@@ -14,7 +14,8 @@ use records::checked::Delivery;
 use transform::Transform;
 
 impl<S: Store, T: Transform> Rebuilder<'_, '_, S, T> {
-    // Sets the samples of a row of the segment's macroblocks, and no others. The vectors of the row begin at `first`.
+    // Sets the samples of a row of the segment's macroblocks, and no others. The vectors of the row begin at `first`. (The slice and its
+    // start stay apart, here and below: it was tried, and `&vectors[first..]` that is handed on inside a loop is lost to the proof; see docs/PROVING.md.)
     fn rebuild_row(
         &self,
         working: &mut S,
@@ -30,6 +31,7 @@ impl<S: Store, T: Transform> Rebuilder<'_, '_, S, T> {
         ensures records { let s = self.now.window.segment in records_of delivery.new ≡ drop (s.right - s.left) (records_of delivery.old) }
     {
         let Segment { left, right, .. } = self.window.segment;
+        // not zipped with the columns: the delivery is lent, and goes on in the next row
         for column in left..right {
             let Some(macroblock) = delivery.next() else {
                 return;

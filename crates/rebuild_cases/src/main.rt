@@ -52,7 +52,8 @@ fn read_delivered(heap: Global, format: Format, fields: &[u8]) -> anyhow::Result
     })
 }
 
-// A case in one store: its pictures and tables, and what they are rebuilt by.
+// A case in one store: its pictures and tables, and what they are rebuilt by. (The tables are those that a caller brings, side by side; no reel is used here,
+// so that the cases say something of the rebuilding alone.)
 #[derive(Drop)]
 struct Case<'a, S, T> {
     format: Format,
@@ -133,7 +134,8 @@ impl<'a, S: Store + Drop, T: Transform> Case<'a, S, T> {
         Ok(())
     }
 
-    // Makes the working picture and ages the finished ones, and gives their sums.
+    // Makes the working picture and ages the finished ones, and gives their sums. (`seats` makes the same of its memory; one function of store and ages for
+    // both would be as long.)
     fn close(&mut self) -> PictureSums {
         copy_picture(&self.working, &mut self.finished);
         tables::copy(&self.working_ages, &mut self.finished_ages);
@@ -149,14 +151,14 @@ impl<'a, S: Store + Drop, T: Transform> Case<'a, S, T> {
     fn run(&mut self, rt: &HostRuntime, label: &str, block: &[u8]) -> anyhow::Result<()> {
         for line in lines_of(block) {
             let (call, fields) = split_field(line);
-            if is_text(call, b"end") {
-                break;
-            }
-            if is_text(call, b"segment") {
-                self.deliver(&read_delivered(rt.alloc(), self.format, fields)?)?;
-            } else if is_text(call, b"close") {
-                let sums = self.close();
-                println!(rt; "{label} {sums}")?;
+            match call {
+                b"segment" => self.deliver(&read_delivered(rt.alloc(), self.format, fields)?)?,
+                b"close" => {
+                    let sums = self.close();
+                    println!(rt; "{label} {sums}")?;
+                }
+                b"end" => break,
+                _ => {}
             }
         }
         Ok(())
@@ -189,10 +191,9 @@ fn run_case(rt: &HostRuntime, fields: &[u8], block: &[u8]) -> anyhow::Result<()>
     let Ok(format) = Format::try_from(number) else {
         return Err(anyhow!("no such format"));
     };
-    if is_text(transform, b"direct") {
-        run_stores(rt, &Direct, format, block)
-    } else {
-        run_stores(rt, &TwoPass, format, block)
+    match transform {
+        b"direct" => run_stores(rt, &Direct, format, block),
+        _ => run_stores(rt, &TwoPass, format, block),
     }
 }
 

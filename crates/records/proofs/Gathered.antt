@@ -1,12 +1,7 @@
 -- Lists that are read piece by piece, and what is sure of an answer.
-use Rattle.std.proofs.Common.{◌≡◌, List, [], ◌++◌, IfOk, Ok, Err, Result, sym, refl, ap, append_assoc}
+use Rattle.std.proofs.Common.{◌≡◌, List, ◌++◌, IfOk, Ok, Err, Result, sym, refl, ap, append_assoc}
 use Rattle.records.specs.Reading.{State, and_then}
 use Rattle.records.specs.Macroblocks.{after}
-
--- nothing, or two lists, in front
-pub after_none : {X F : Type 0} (r : Result (List X × State) F) → after [] r ≡ r
-after_none (Ok q) = refl
-after_none (Err f) = refl
 
 pub after_both : {X F : Type 0} (xs ys : List X) (r : Result (List X × State) F) → after xs (after ys r) ≡ after (xs ++ ys) r
 after_both xs ys (Ok q) = ap (λ zs. Ok (zs, q.1)) (sym (append_assoc xs ys q.0))

@@ -1,4 +1,3 @@
-pub mod Chunks
 pub mod Turns
 pub mod Gathered
 pub mod Blocks

@@ -1,20 +1,13 @@
 -- One word after another, and one coefficient after another.
-use Rattle.std.proofs.Common.{◌≡◌, ℕ, ◌+◌, ◌<◌, true, false, List, [], ◌∷◌, length, set, ℤ, Ok, Err, Result, sym, ap, arith, eq-eqb, ne_eqb}
+use Rattle.std.proofs.Common.{◌≡◌, ℕ, ◌+◌, ◌<◌, true, false, List, [], ◌∷◌, length, set, ℤ, Ok, Err, Result, sym, ap, arith}
 use Rattle.records.specs.declared.faults.Place.{Place}
 use Rattle.records.specs.declared.faults.WordFault.{WordFault}
-use Rattle.records.specs.declared.faults.WordFault.TheVariants.{Unnamed}
 use Rattle.records.specs.declared.faults.BlockFault.{BlockFault}
 use Rattle.records.specs.declared.faults.BlockFault.TheVariants.{Word}
 use Rattle.records.specs.declared.types.Coefficient.{Coefficient}
-use Rattle.records.specs.declared.types.WordKind.{WordKind}
 use Rattle.records.specs.declared.types.WordKind.TheVariants as due
-use Rattle.records.specs.Words.{bits, kind_number, unnamed}
 use Rattle.records.specs.Reading.{State, formed, place_at, with_state, word_in}
 use Rattle.records.specs.Blocks.{coefficient_of, levels_from, levels_in}
-
--- the next word has the kind that is due, and an unnamed bit
-pub unnamed_set : (kind : WordKind) (p : Place) (ws : List ℕ) (i w : ℕ) (rest : List ℕ) → ws ≡ w ∷ rest → bits 31 28 w ≡ kind_number kind → (unnamed kind w ≡ 0 → ⊥) → word_in kind p ws i ≡ Err (Unnamed p)
-unnamed_set kind p ws i w rest e k u = rw (e, eq-eqb _ _ k, ne_eqb _ _ u)
 
 -- what an answer with its state was
 err_was : {X F : Type 0} (r : Result X F) (s : State) (e : F) → ◌≡◌ {A = Result (X × State) F} (Err e) (with_state r s) → r ≡ Err e

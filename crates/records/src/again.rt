@@ -1,12 +1,15 @@
 // Reading a checked delivery again.
-ghost use Rattle.std.specs.Prelude.{◌≡◌, ℕ, ◌<◌, true, ◌∷◌, length, is_ok, Ok};
+ghost use Rattle.std.specs.Prelude.{◌≡◌, ℕ, ◌<◌, true, ◌∷◌, length, is_ok, IfOk, Ok};
+ghost use Rattle.std.specs.Result.{result_map_both};
 ghost use Rattle.std.specs.Iterator.{YieldsFirst, item_count};
 ghost use Rattle.records.specs.Again.{records_of};
-ghost use Rattle.records.specs.Deliveries.{read};
+ghost use Rattle.records.specs.Deliveries.{answered, read};
 
 use crate::checked::Delivery;
+use crate::delivery::check_delivery;
+use crate::faults::SegmentFault;
 use crate::reader::Words;
-use crate::types::{Macroblock, PictureKind};
+use crate::types::{Delivered, Macroblock, PictureKind};
 
 impl<'a> Delivery<'a> {
     // A delivery that `check_delivery` has accepted.
@@ -20,6 +23,20 @@ impl<'a> Delivery<'a> {
             kind,
             due: 0..macroblocks,
         }
+    }
+
+    // Checks a delivery, and makes an accepted one ready to be read: beside the counts that it is answered, or the first fault.
+    pub fn checked(
+        kind: PictureKind,
+        macroblocks: usize,
+        bytes: &'a [u8],
+    ) -> Result<(Delivered, Delivery<'a>), SegmentFault>
+        ensures value { result_map_both (λ accepted. accepted.0) (λ fault. fault) result ≡ answered kind macroblocks bytes.now }
+        ensures records { IfOk result (λ accepted. read kind macroblocks bytes.now ≡ Ok (records_of accepted.1)) }
+        ensures count { IfOk result (λ accepted. length (records_of accepted.1) ≡ macroblocks) }
+    {
+        let delivered = check_delivery(kind, macroblocks, bytes)?;
+        Ok((delivered, Delivery::new(kind, macroblocks, bytes)))
     }
 }
 

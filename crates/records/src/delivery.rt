@@ -38,7 +38,7 @@ impl<'a> Words<'a> {
         }
     }
 
-    // Reads so many macroblocks, and counts the INTRA ones.
+    // Reads so many macroblocks, and counts the INTRA ones. (A loop, since of a closure that reads on in the words an iterator's contract says nothing.)
     fn count_intra(&mut self, kind: PictureKind, macroblocks: usize) -> Result<usize, SegmentFault>
         ensures { with_state result (state_of self.new) ≡ counted 0 (macroblocks_from macroblocks kind (state_of self.old) 0) }
     {

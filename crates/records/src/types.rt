@@ -24,8 +24,9 @@ pub enum MacroblockType {
     Intra,
 }
 
-// A number that stands for nothing of the type that it was read as.
-#[derive(Clone, Copy)]
+// A number that stands for nothing of the type that it was read as. (`samples` and `pictures` have errors of this shape of their own: the three crates
+// know nothing of each other.)
+#[derive(Clone, Copy, PartialEq, Eq, Debug)]
 pub struct UnknownNumber {
     pub number: u32,
 }
@@ -60,7 +61,8 @@ pub struct Block {
     pub levels: [i8; 64],
 }
 
-// A macroblock as its words give it: blocks 0 to 3 are luma in raster order, 4 is Cb and 5 is Cr.
+// A macroblock as its words give it: blocks 0 to 3 are luma in raster order, 4 is Cb and 5 is Cr. (A block goes by its place in the array, which its bit
+// in the pattern and the words themselves count by too.)
 #[derive(Clone, Copy)]
 pub enum Macroblock {
     Skipped,

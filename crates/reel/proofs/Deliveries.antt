@@ -15,21 +15,13 @@ use Rattle.calls.proofs.Verdicts.{delivery_passed}
 use Rattle.reel.specs.declared.reels.Slip.{Slip}
 use Rattle.reel.specs.Calls.{counted, held_after, judged}
 
--- a refusal comes from the questions
-refused : (bytes : List ℕ) (v : Result (List Macroblock) PictureFault) (f : PictureFault) → Err f ≡ counted bytes v → v ≡ Err f
-refused bytes (Ok records) f e = absurd (let z : ◌≡◌ {A = ℕ} 0 1 = cc in omega arith)
-refused bytes (Err g) f e = ap Err (let z : g ≡ f = cc in z)
-
--- and so do the counts
+-- the counts come from the questions
 granted : (bytes : List ℕ) (v : Result (List Macroblock) PictureFault) (counts : Delivered) → Ok counts ≡ counted bytes v
     → (records : List Macroblock) × ((v ≡ Ok records) × (counts ≡ delivered_of bytes records))
 granted bytes (Ok records) counts e = (records, (refl, cc))
 granted bytes (Err g) counts e = absurd (let z : ◌≡◌ {A = ℕ} 0 1 = cc in omega arith)
 
 module _ (slip : Slip) (held : Held) (segment : ℕ) (bytes : List ℕ) where
-  pub delivery_refused : (f : PictureFault) → Err f ≡ counted bytes (judged slip held segment bytes) → judged slip held segment bytes ≡ Err f
-  delivery_refused f d = refused bytes (judged slip held segment bytes) f d
-
   pub record Granted (counts : Delivered) : Type 0 where
     pub fitting : fits slip.reel.format held ≡ true
     pub numbered : segment < segment_count slip.reel.format slip.layout

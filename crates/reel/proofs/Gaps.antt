@@ -19,9 +19,6 @@ module _ (format : Format) (layout accepted : ℕ) where
   missing_in : ℕ → ℕ → ℕ → ℕ → Bool
   missing_in n q u v = eqb (segment_of layout (v / side q)) n && missing layout accepted (v / side q)
 
-  pub none_missing : (q u v : ℕ) → missing_below 0 q u v ≡ false
-  none_missing q u v = grind (arith, nat_tests)
-
   one_more : (s n : ℕ) (m : Bool) → (ltb s (n + 1) && m) ≡ ((eqb s n && m) || (ltb s n && m))
   one_more s n true = grind (arith, nat_tests)
   one_more s n false = grind (arith, nat_tests)

@@ -1,5 +1,5 @@
 // Closing a picture.
-ghost use Rattle.std.specs.Prelude.{◌≡◌, ℕ, ◌<◌, true, not, ◌&&◌, length, if◌then◌else◌, MatchResult};
+ghost use Rattle.std.specs.Prelude.{◌≡◌, ℕ, true, not, ◌&&◌, length, if◌then◌else◌, MatchResult};
 ghost use Rattle.pictures.specs.Formats.{columns_of, rows_of};
 ghost use Rattle.pictures.specs.Pictures.{covers, painted};
 ghost use Rattle.pictures.specs.Segments.{has_bit, segment_at};
@@ -41,7 +41,6 @@ impl Slip {
     // Sets the samples of a segment that was not accepted: grey in an INTRA picture, those of the finished picture in an INTER one. One that was
     // accepted stays.
     fn fill_gap<S: Store>(&self, number: u32, finished: &S, working: &mut S)
-        requires { number < 32 }
         ensures { S.picture working.new ≡ painted (λ q u v. not (has_bit self.now.accepted number) && covers (segment_at self.now.reel.format self.now.layout number) q u v) (fill_sample self.now.kind (S.picture finished.now)) (S.picture working.old) }
     {
         if self.is_accepted(number) {
@@ -67,7 +66,6 @@ impl Slip {
 
     // Whether a macroblock row lies in a segment that was not accepted.
     fn is_missing(&self, row: u16) -> bool
-        requires { row < rows_of self.now.reel.format }
         ensures { result ≡ missing self.now.layout self.now.accepted row }
     {
         !self.is_accepted(self.reel.format.segment_of_row(self.layout, row))
@@ -75,7 +73,6 @@ impl Slip {
 
     // The age of a macroblock in a row at the closing: as delivered, or where it is missing as that of a gap.
     fn closing_age(&self, row: u16, finished: u8, working: u8) -> u8
-        requires { row < rows_of self.now.reel.format }
         ensures { result ≡ (if missing self.now.layout self.now.accepted row then fill_age self.now.kind finished else working) }
     {
         if self.is_missing(row) {

@@ -2,7 +2,6 @@
 ghost use Rattle.std.specs.Prelude.{◌≡◌, ℕ, ◌*◌, ◌^◌, ◌<◌, ◌≤◌, true, is_ok, vec_len, bit_or};
 ghost use Rattle.motion.specs.Cells.{Room};
 ghost use Rattle.records.specs.Deliveries.{read};
-ghost use Rattle.motion.specs.Cells.{Room};
 ghost use Rattle.pictures.specs.Segments.{has_bit};
 ghost use Rattle.rebuild.specs.Rebuilt.{accepted, count_of, width_of};
 ghost use Rattle.calls.specs.Effects.{segment_rebuilt};
@@ -14,7 +13,7 @@ ghost use Rattle.reel.specs.Memories.{held_in};
 use crate::memory::Memory;
 use crate::reels::Slip;
 use calls::faults::PictureFault;
-use pictures::{Segment, Store};
+use pictures::{Segment, Store, has_bit};
 use prediction::window::Window;
 use rebuild::rebuilder::Rebuilder;
 use records::delivery::check_delivery;
@@ -30,7 +29,7 @@ fn with_mark(marks: u32, segment: u32) -> u32
     marks | 1 << segment
 }
 
-// The macroblocks of a segment.
+// The macroblocks of a segment. (The rebuilding has the same product in two steps, for it needs the columns and the rows by themselves.)
 fn macroblocks_in(segment: Segment) -> usize
     requires { (segment.left ≤ segment.right) × ((segment.right ≤ 22) × ((segment.top ≤ segment.bottom) × (segment.bottom ≤ 18))) }
     ensures { result ≡ count_of segment }
@@ -38,7 +37,8 @@ fn macroblocks_in(segment: Segment) -> usize
     (segment.bottom - segment.top) as usize * (segment.right - segment.left) as usize
 }
 
-// Rebuilds the segment of an accepted delivery in a memory that has room for it.
+// Rebuilds the segment of an accepted delivery in a memory that has room for it. (The segment's bounds are asked for, since the window that holds them can
+// be made only when the memory is taken apart.)
 fn rebuild_in<S: Store, T: Transform>(
     memory: &mut Memory<S>,
     transform: &T,
@@ -83,10 +83,9 @@ fn rebuild_in<S: Store, T: Transform>(
 impl Slip {
     // Whether a segment was accepted.
     pub(crate) fn is_accepted(&self, segment: u32) -> bool
-        requires { segment < 32 }
         ensures { result ≡ has_bit self.now.accepted segment }
     {
-        (self.accepted >> segment) % 2 == 1
+        has_bit(self.accepted, segment)
     }
 
     // Puts a delivery its questions: the counts that it is answered, or the first fault.

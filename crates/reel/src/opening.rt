@@ -28,7 +28,7 @@ fn read_kind(kind: u32, rounding: u32) -> Result<(PictureKind, Rounding), Pictur
 }
 
 impl Reel {
-    // A new reel of the format of a number.
+    // A new reel of the format of a number. (The caller's number: that of no format is refused.)
     pub fn new(format: u32) -> Result<Reel, PictureFault>
         ensures { result ≡ new_reel (numbered format) }
     {

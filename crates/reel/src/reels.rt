@@ -22,7 +22,7 @@ pub struct Slip {
     pub(crate) rounding: Rounding,
     pub(crate) layout: u32,
     pub(crate) accepted: u32,
-    // A flag, and not a type for each state: that closing spends the slip by value and that its `drop` asks for it is the form the reel is to have.
+    // A flag, and not a type for each state, since a `drop` can ask for the value of a field and not for a type: by it a slip that was not handed in is refused.
     pub(crate) spent: bool,
 }
 

@@ -1,7 +1,6 @@
 use calls::faults::PictureFault;
 use motion::vectors::Vector;
 use pictures::{Format, Store};
-use records::types::Delivered;
 use reel::memory::Memory;
 use reel::reels::Reel;
 use std::alloc::Global;
@@ -9,9 +8,21 @@ use std::test::Fail;
 use stores::ByteStore;
 use transform::TwoPass;
 
-// A store of a format, of zeros.
+// A store of a format, of zeros, made by the format's number over memory that suffices.
 fn store(heap: Global, format: Format) -> Result<ByteStore, Fail> {
-    Ok(ByteStore::filled(heap, format, 0)?)
+    let memory = vec![in heap; 0u8; format.samples()]?;
+    Ok(ByteStore::new(u8::from(format), memory))
+}
+
+// The parts of a memory.
+#[derive(Clone, Copy, PartialEq, Eq)]
+enum Part {
+    Finished,
+    Working,
+    FinishedAges,
+    WorkingAges,
+    Vectors,
+    Marks,
 }
 
 // One of two values.
@@ -19,41 +30,33 @@ fn either<X: Copy>(first: bool, one: X, other: X) -> X {
     if first { one } else { other }
 }
 
-// A memory of sub-QCIF, of zeros and absent marks, in which one part may have another size: 0 is the finished store, 1 the working store, 2 the finished
-// ages, 3 the working ages, 4 the vectors and 5 the marks.
-fn memory_but(heap: Global, part: u8) -> Result<Memory<ByteStore>, Fail> {
-    let zero = Vector {
-        horizontal: 0,
-        vertical: 0,
-    };
+// A memory of sub-QCIF, of zeros and absent marks, in which one part may have another size.
+fn memory_but(heap: Global, wrong: Option<Part>) -> Result<Memory<ByteStore>, Fail> {
+    let is = |part| wrong == Some(part);
     Ok(Memory {
-        finished: store(heap, either(part == 0, Format::Qcif, Format::SubQcif))?,
-        working: store(heap, either(part == 1, Format::Cif, Format::SubQcif))?,
-        finished_ages: vec![in heap; 0u8; either(part == 2, 49, 48)]?,
-        working_ages: vec![in heap; 0u8; either(part == 3, 47, 48)]?,
-        vectors: vec![in heap; zero; either(part == 4, 49, 48)]?,
-        marks: vec![in heap; None; either(part == 5, 47, 48)]?,
+        finished: store(
+            heap,
+            either(is(Part::Finished), Format::Qcif, Format::SubQcif),
+        )?,
+        working: store(
+            heap,
+            either(is(Part::Working), Format::Cif, Format::SubQcif),
+        )?,
+        finished_ages: vec![in heap; 0u8; either(is(Part::FinishedAges), 49, 48)]?,
+        working_ages: vec![in heap; 0u8; either(is(Part::WorkingAges), 47, 48)]?,
+        vectors: vec![in heap; Vector::default(); either(is(Part::Vectors), 49, 48)]?,
+        marks: vec![in heap; None; either(is(Part::Marks), 47, 48)]?,
     })
 }
 
-// What a question is answered: its value, or 1,000 and the number of the refusal.
-fn told(found: Result<u8, PictureFault>) -> u16 {
-    match found {
-        Ok(value) => u16::from(value),
-        Err(fault) => 1000 + u16::from(number_of(fault)),
-    }
-}
-
-// The number of a refusal.
+// The number of a refusal. The numbers are what is under test, and so refusals are compared by them.
 fn number_of(fault: PictureFault) -> u8 {
     fault.refusal().number
 }
 
-fn refused_number(given: Result<Delivered, PictureFault>) -> u8 {
-    match given {
-        Ok(_) => 0,
-        Err(fault) => number_of(fault),
-    }
+// What a question is answered: its value, or the number of the refusal.
+fn told(found: Result<u8, PictureFault>) -> Result<u8, u8> {
+    found.map_err(number_of)
 }
 
 fn new_reel() -> Result<Reel, Fail> {
@@ -63,62 +66,62 @@ fn new_reel() -> Result<Reel, Fail> {
     }
 }
 
-// The number that an opening over a memory is refused with, or 0.
-fn refused_opening(reel: Reel, wrong: &mut Memory<ByteStore>) -> (Reel, u8) {
+// The number that an opening over a memory is refused with, if it is.
+fn refused_opening(reel: Reel, wrong: &mut Memory<ByteStore>) -> (Reel, Option<u8>) {
     match reel.open(wrong, 0, 0, 1) {
         Ok((slip, _)) => match slip.close(wrong) {
-            Ok((reel, _)) => (reel, 0),
+            Ok((reel, _)) => (reel, None),
             Err(_) => unreachable(),
         },
-        Err((reel, fault)) => (reel, number_of(fault)),
+        Err((reel, fault)) => (reel, Some(number_of(fault))),
     }
 }
 
-// The number that a delivery over a memory is refused with, or 0, on a slip that is opened and handed in over another. (Reel and memories are passed
+// The number that a delivery over a memory is refused with, if it is, on a slip that is opened and handed in over another. (Reel and memories are passed
 // apart here and below, as the calls under test take them.)
 fn refused_delivery(
     reel: Reel,
     right: &mut Memory<ByteStore>,
     wrong: &mut Memory<ByteStore>,
-) -> (Reel, u8) {
+) -> (Reel, Option<u8>) {
     match reel.open(right, 0, 0, 1) {
         Ok((slip, _)) => {
             let (slip, given) = slip.deliver(wrong, &TwoPass, 0, b"");
             match slip.close(right) {
-                Ok((reel, _)) => (reel, refused_number(given)),
+                Ok((reel, _)) => (reel, given.err().map(number_of)),
                 Err(_) => unreachable(),
             }
         }
-        Err((reel, _)) => (reel, 0),
+        Err((reel, _)) => (reel, None),
     }
 }
 
-// The number that a closing over a memory is refused with, or 0; the slip that it hands back is closed over another, with these marks.
+// The number that a closing over a memory is refused with, if it is; the slip that it hands back is closed over another, with these marks.
 fn refused_closing(
     reel: Reel,
     right: &mut Memory<ByteStore>,
     wrong: &mut Memory<ByteStore>,
-) -> (u8, u32) {
+) -> (Option<u8>, u32) {
     match reel.open(right, 0, 0, 1) {
         Ok((slip, _)) => match slip.close(wrong) {
-            Ok((_, marks)) => (0, marks),
+            Ok((_, marks)) => (None, marks),
             Err((slip, fault)) => match slip.close(right) {
-                Ok((_, marks)) => (number_of(fault), marks),
+                Ok((_, marks)) => (Some(number_of(fault)), marks),
                 Err(_) => unreachable(),
             },
         },
-        Err(_) => (0, 9),
+        Err(_) => (None, 9),
     }
 }
 
-// Opens an INTRA picture and closes it with nothing delivered: the reel, and the number of the refusal, or 0.
-fn pass_picture(reel: Reel, memory: &mut Memory<ByteStore>) -> (Reel, u8) {
+// Opens an INTRA picture and closes it with nothing delivered: the reel, and the number of the refusal, if it is refused.
+fn pass_picture(reel: Reel, memory: &mut Memory<ByteStore>) -> (Reel, Option<u8>) {
     match reel.open(memory, 0, 0, 1) {
         Ok((slip, _)) => match slip.close(memory) {
-            Ok((reel, _)) => (reel, 0),
+            Ok((reel, _)) => (reel, None),
             Err(_) => unreachable(),
         },
-        Err((reel, fault)) => (reel, number_of(fault)),
+        Err((reel, fault)) => (reel, Some(number_of(fault))),
     }
 }
 
@@ -126,20 +129,31 @@ fn pass_picture(reel: Reel, memory: &mut Memory<ByteStore>) -> (Reel, u8) {
 #[test]
 fn wrong_sizes(rt: HostRuntime) -> Result<(), Fail> {
     let heap = rt.alloc();
-    for part in 0..6 {
-        let mut right = memory_but(heap, 6)?;
-        let mut wrong = memory_but(heap, part)?;
+    for part in [
+        Part::Finished,
+        Part::Working,
+        Part::FinishedAges,
+        Part::WorkingAges,
+        Part::Vectors,
+        Part::Marks,
+    ] {
+        let mut right = memory_but(heap, None)?;
+        let mut wrong = memory_but(heap, Some(part))?;
         let (reel, opening) = refused_opening(new_reel()?, &mut wrong);
-        assert_eq!(rt; opening, 2);
+        assert_eq!(rt; opening, Some(2));
         let (reel, delivery) = refused_delivery(reel, &mut right, &mut wrong);
-        assert_eq!(rt; delivery, 2);
-        assert_eq!(rt; refused_closing(reel, &mut right, &mut wrong), (2, 0));
+        assert_eq!(rt; delivery, Some(2));
+        assert_eq!(rt; refused_closing(reel, &mut right, &mut wrong), (Some(2), 0));
     }
     Ok(())
 }
 
 // The answers to both questions on an open slip, over a memory with right and one with wrong sizes; the slip is handed in at the end.
-fn told_open(reel: Reel, right: &mut Memory<ByteStore>, wrong: &Memory<ByteStore>) -> [u16; 4] {
+fn told_open(
+    reel: Reel,
+    right: &mut Memory<ByteStore>,
+    wrong: &Memory<ByteStore>,
+) -> [Result<u8, u8>; 4] {
     match reel.open(right, 1, 1, 1) {
         Ok((slip, _)) => {
             let told = [
@@ -153,7 +167,7 @@ fn told_open(reel: Reel, right: &mut Memory<ByteStore>, wrong: &Memory<ByteStore
                 Err(_) => unreachable(),
             }
         }
-        Err(_) => [0; 4],
+        Err((_, fault)) => [Err(number_of(fault)); 4],
     }
 }
 
@@ -161,39 +175,42 @@ fn told_open(reel: Reel, right: &mut Memory<ByteStore>, wrong: &Memory<ByteStore
 #[test]
 fn questions_of_wrong_size(rt: HostRuntime) -> Result<(), Fail> {
     let heap = rt.alloc();
-    let mut right = memory_but(heap, 6)?;
-    let store = memory_but(heap, 0)?;
-    let ages = memory_but(heap, 2)?;
+    let mut right = memory_but(heap, None)?;
+    let store = memory_but(heap, Some(Part::Finished))?;
+    let ages = memory_but(heap, Some(Part::FinishedAges))?;
     let (reel, _) = pass_picture(new_reel()?, &mut right);
-    assert_eq!(rt; told(reel.sample(&right.finished, 0, 127, 95)), 128);
-    assert_eq!(rt; told(reel.sample(&ages.finished, 0, 127, 95)), 0);
-    assert_eq!(rt; told(reel.sample(&store.finished, 0, 127, 95)), 1002);
-    assert_eq!(rt; told(reel.age(&right.finished_ages, 7, 5)), 255);
-    assert_eq!(rt; told(reel.age(&store.finished_ages, 7, 5)), 0);
-    assert_eq!(rt; told(reel.age(&ages.finished_ages, 7, 5)), 1002);
-    assert_eq!(rt; told(reel.age(&right.finished_ages, 8, 5)), 1018);
-    assert_eq!(rt; told(reel.sample(&right.finished, 256, 0, 0)), 1018);
+    assert_eq!(rt; told(reel.sample(&right.finished, 0, 127, 95)), Ok(128));
+    assert_eq!(rt; told(reel.sample(&ages.finished, 0, 127, 95)), Ok(0));
+    assert_eq!(rt; told(reel.sample(&store.finished, 0, 127, 95)), Err(2));
+    assert_eq!(rt; told(reel.age(&right.finished_ages, 7, 5)), Ok(255));
+    assert_eq!(rt; told(reel.age(&store.finished_ages, 7, 5)), Ok(0));
+    assert_eq!(rt; told(reel.age(&ages.finished_ages, 7, 5)), Err(2));
+    assert_eq!(rt; told(reel.age(&right.finished_ages, 8, 5)), Err(18));
+    assert_eq!(rt; told(reel.sample(&right.finished, 256, 0, 0)), Err(18));
     let wrong = Memory {
         finished: store.finished,
         ..ages
     };
-    assert_eq!(rt; told_open(reel, &mut right, &wrong), [128, 1002, 255, 1002]);
+    assert_eq!(rt;
+        told_open(reel, &mut right, &wrong),
+        [Ok(128), Err(2), Ok(255), Err(2)]
+    );
     Ok(())
 }
 
 // The reel opens 60,000 pictures and no more; those that were refused do not count.
 #[test]
 fn picture_limit(rt: HostRuntime) -> Result<(), Fail> {
-    let mut memory = memory_but(rt.alloc(), 6)?;
+    let mut memory = memory_but(rt.alloc(), None)?;
     let mut reel = new_reel()?;
     let mut accepted = 0u32;
     for _ in 0..60_002 {
         let (rested, number) = pass_picture(reel, &mut memory);
         reel = rested;
-        accepted = accepted.saturating_add(u32::from(number == 0));
+        accepted = accepted.saturating_add(u32::from(number.is_none()));
     }
     let (_, number) = pass_picture(reel, &mut memory);
     assert_eq!(rt; accepted, 60_000);
-    assert_eq!(rt; number, 3);
+    assert_eq!(rt; number, Some(3));
     Ok(())
 }

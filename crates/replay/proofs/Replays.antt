@@ -16,9 +16,6 @@ pub record Left (meaning : List ℤ → ℕ → ℕ → ℤ) (stage : Stage) (he
   pub setting : setting_at stage' meaning held' ≡ setting_at stage meaning held
 
 module _ (meaning : List ℤ → ℕ → ℕ → ℤ) (stage : Stage) (held : Held) (calls : List Calling) where
-  pub none_done : Left meaning stage held calls calls stage held []
-  none_done = record { whole = refl; answers = refl; format = refl; unspent = λ o. o; setting = refl }
-
   -- one more call
   pub one_done : (rest more : List Calling) (c : Calling) (stage₁ stage₂ : Stage) (held₁ held₂ : Held) (done done₂ : List Answer) (a : Answer)
       → Left meaning stage held calls rest stage₁ held₁ done → rest ≡ c ∷ more

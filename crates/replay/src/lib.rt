@@ -11,7 +11,6 @@ ghost use Rattle.replay.specs.Stages.{Replayed, answer_to, close_turn, format_of
 use calls::answers::{Answer, Call};
 use calls::faults::PictureFault;
 use pictures::Store;
-use records::types::Delivered;
 use reel::memory::Memory;
 use reel::reels::{Reel, Slip};
 use std::alloc::Global;

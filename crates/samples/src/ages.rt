@@ -2,7 +2,7 @@
 ghost use Rattle.std.specs.Prelude.{◌≡◌};
 ghost use Rattle.samples.specs.Ages.{next_age};
 
-// The age of a macroblock that was never INTRA.
+// The age of a macroblock that was never INTRA. (A number among the ages, and no absence: a caller's table and the answer have a byte for each.)
 pub const NEVER: u8 = 255;
 
 // The highest age of the others.

@@ -10,8 +10,8 @@ pub enum Rounding {
     Down,
 }
 
-// A number that stands for no rounding.
-#[derive(Clone, Copy)]
+// A number that stands for no rounding. (`records` and `pictures` have errors of this shape of their own: the three crates know nothing of each other.)
+#[derive(Clone, Copy, PartialEq, Eq, Debug)]
 pub struct UnknownRounding {
     pub number: u32,
 }
@@ -56,7 +56,7 @@ pub fn between_four(rounding: Rounding, a: u8, b: u8, c: u8, d: u8) -> u8
     ((sum + 2 - u16::from(rounding)) / 4) as u8
 }
 
-// The prediction where half steps lead across and down. `a` lies at the place itself, `b` right of it, `c` below it, `d` below `b`.
+// The prediction where half steps lead across and down, which are two values of the vector and no choice of a step. `a` lies at the place itself, `b` right of it, `c` below it, `d` below `b`.
 pub fn predict(
     rounding: Rounding,
     half_across: bool,

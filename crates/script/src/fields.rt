@@ -5,26 +5,28 @@ ghost use Rattle.std.specs.Iterator.{YieldsFirstBy, at_most};
 ghost use Rattle.script.specs.Fields.{Tests, after_field, field_of, from_on, is_blank, is_hash, is_line_feed, is_visible, lines_of, up_to};
 
 // Whether a byte is a space, a tab or the end of a line.
-fn is_blank(byte: &u8) -> bool
+pub fn is_blank(byte: &u8) -> bool
     ensures { result ≡ is_blank byte.now }
 {
     matches!(*byte, b' ' | b'\t' | b'\r' | b'\n')
 }
 
-fn is_visible(byte: &u8) -> bool
+// Whether a byte is no blank.
+pub fn is_visible(byte: &u8) -> bool
     ensures { result ≡ is_visible byte.now }
 {
     !is_blank(byte)
 }
 
-fn is_line_feed(byte: &u8) -> bool
+// Whether a byte ends a line.
+pub fn is_line_feed(byte: &u8) -> bool
     ensures { result ≡ is_line_feed byte.now }
 {
     *byte == b'\n'
 }
 
 // Whether a byte begins a comment.
-fn is_hash(byte: &u8) -> bool
+pub fn is_hash(byte: &u8) -> bool
     ensures { result ≡ is_hash byte.now }
 {
     *byte == b'#'
@@ -39,8 +41,8 @@ fn find<F: Fn(&u8) -> bool>(bytes: &[u8], stops: F) -> usize
     bytes.iter().position(stops).unwrap_or(bytes.len())
 }
 
-// The bytes before the first that passes a test, and those from it on.
-fn split_at_first<F: Fn(&u8) -> bool>(bytes: &[u8], stops: F) -> (&[u8], &[u8])
+// The bytes before the first that passes a test, and those from it on. (The test must be callable: whoever calls a closure asks that of it.)
+pub fn split_at_first<F: Fn(&u8) -> bool>(bytes: &[u8], stops: F) -> (&[u8], &[u8])
     requires { F.IsAlwaysCallable stops }
     ensures front { (stop : ℕ → Bool) → Tests F.Fn stops stop → result.0.now ≡ up_to stop bytes.now }
     ensures back { (stop : ℕ → Bool) → Tests F.Fn stops stop → result.1.now ≡ from_on stop bytes.now }
@@ -78,7 +80,7 @@ pub fn split_field(bytes: &[u8]) -> (&[u8], &[u8])
     split_at_first(text, is_blank)
 }
 
-// Whether a field is a text.
+// Whether a field is a text. (It gives `==` of two slices the word that the definitions of lines have for it.)
 pub fn is_text(field: &[u8], text: &[u8]) -> bool
     ensures { result ≡ bytes_eq field.now text.now }
 {

@@ -71,7 +71,7 @@ pub struct Records {
     pub bytes: Vec<u8>,
 }
 
-// The kind of a picture by its number.
+// The kind of a picture by its number. (No `TryFrom`, since neither the kind nor the field's type is this crate's.)
 pub fn kind_of(field: &[u8]) -> Option<PictureKind>
     ensures { result ≡ kind_of field.now }
 {
@@ -128,10 +128,10 @@ pub fn parse_line(heap: Global, line: &[u8]) -> Result<Option<Records>, LineErro
     ensures { Says (option_map meant) result (line_of line.now) }
 {
     let (call, fields) = split_field(without_comment(line));
+    // no `match` on the word's seven bytes: what the word says stayed open
     if call.is_empty() {
         Ok(None)
     } else if is_text(call, b"records") {
-        // a `match` on the seven bytes did not prove: what the word says stayed open
         Ok(Some(records_line(heap, fields)?))
     } else {
         Err(LineError::Wrong(Mistake::Call))

@@ -43,19 +43,15 @@ fn nibble(digit: u8) -> Option<u8>
 pub fn unhex(heap: Global, digits: &[u8]) -> Result<Option<Vec<u8>>, AllocError>
     ensures { IfOk result (λ o. option_map vec_items o ≡ pairs_of digits.now) }
 {
+    let (pairs, []) = digits.as_chunks::<2>() else {
+        return Ok(None);
+    };
     let mut bytes = Vec::new(heap);
-    let mut rest = digits;
-    // by pairs: `chunks_exact` would take the odd digit at the end apart, and its parts are no pairs to the proof
-    while let [first, second, tail @ ..] = rest {
+    for [first, second] in pairs {
         let (Some(high), Some(low)) = (nibble(*first), nibble(*second)) else {
             return Ok(None);
         };
         bytes.push(high * 16 + low)?;
-        rest = tail;
     }
-    if rest.is_empty() {
-        Ok(Some(bytes))
-    } else {
-        Ok(None)
-    }
+    Ok(Some(bytes))
 }

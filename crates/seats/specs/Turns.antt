@@ -4,8 +4,6 @@ use Rattle.call_lines.specs.declared.line.Line.{Line}
 use Rattle.script.specs.declared.line.Mistake.{Mistake}
 use Rattle.call_lines.specs.Lines.{Meaning, age, ages, close, deliver, new, opened, records, sample, store, told, transform}
 use Rattle.calls.specs.Runs.{Calling, asking_age, asking_sample, closing, delivering, opening}
-use Rattle.transcripts.specs.declared.answers.Word.{Word}
-use Rattle.transcripts.specs.declared.answers.Word.TheVariants as word
 
 -- the call on a reel that a line makes, if it makes one
 abbrev pub call_by : Meaning → Option Calling
@@ -34,11 +32,3 @@ also_call (Some c) calls = c ∷ calls
 abbrev pub calls_in : List (Result (Option Line) Mistake) → List Calling
 calls_in [] = []
 calls_in (l ∷ ls) = also_call (call_in (told l)) (calls_in ls)
-
--- the word that an answer begins with
-abbrev pub word_for : Calling → Word
-word_for (opening kind rounding layout) = word.Open
-word_for (delivering segment bytes) = word.Deliver
-word_for closing = word.Close
-word_for (asking_sample plane across down) = word.Sample
-word_for (asking_age column row) = word.Age

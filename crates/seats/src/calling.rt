@@ -6,7 +6,7 @@ ghost use Rattle.call_lines.specs.Lines.{told};
 ghost use Rattle.replay.specs.declared.Stage.TheVariants.{Resting};
 ghost use Rattle.transcripts.specs.Tallies.{one_more};
 ghost use Rattle.seats.specs.Seats.{Ran, held_by, seated};
-ghost use Rattle.seats.specs.Turns.{call_in, calls_in, word_for};
+ghost use Rattle.seats.specs.Turns.{call_in, calls_in};
 
 use crate::memories::StoredMemory;
 use crate::seat::{Choices, Seat};
@@ -58,46 +58,24 @@ fn call_of(line: &Said) -> Option<Call<'_>>
     }
 }
 
-// The word that the answer to a call begins with.
-fn word_of(call: &Call) -> Word
-    ensures { result ≡ word_for (call_of call.now) }
-{
-    match call {
-        Call::Open { .. } => Word::Open,
-        Call::Deliver { .. } => Word::Deliver,
-        Call::Close => Word::Close,
-        Call::Sample { .. } => Word::Sample,
-        Call::Age { .. } => Word::Age,
-    }
-}
-
 // The calls of some lines.
 fn calls_of(heap: Global, lines: &[Said]) -> Result<Vec<Call<'_>>, AllocError>
     ensures { IfOk result (λ v. calls_of v.items ≡ calls_in lines.now) }
 {
-    let mut calls = Vec::new(heap);
-    for line in lines {
-        let Some(call) = call_of(line) else {
-            continue;
-        };
-        calls.push(call)?;
-    }
-    Ok(calls)
+    lines.iter().filter_map(call_of).collect(heap)
 }
 
 // The calls of some lines without a reel: each is out of turn.
 pub fn miss_calls(lines: &[Said], transcript: &mut Transcript) {
-    for line in lines {
-        if let Some(call) = call_of(line) {
-            transcript.answer(word_of(&call), Answer::OutOfTurn);
-        }
+    for call in lines.iter().filter_map(call_of) {
+        transcript.answer(Word::from(&call), Answer::OutOfTurn);
     }
 }
 
 // Tells the answers to calls. A closing stands last, so that the memory still holds the picture that it finished.
 fn tell(calls: &[Call], answers: &[Answer], memory: &StoredMemory, transcript: &mut Transcript) {
     for (call, answer) in calls.iter().zip(answers.iter()) {
-        transcript.answer(word_of(call), *answer);
+        transcript.answer(Word::from(call), *answer);
     }
     if let Some(Answer::Closed { .. }) = answers.last() {
         transcript.add(memory.sums());

@@ -36,21 +36,18 @@ fn with_tables<S: Drop>(
     ensures { IfOk result (λ m. Tabled format finished working m) }
 {
     let cells = format.macroblocks();
-    let still = Vector {
-        horizontal: 0,
-        vertical: 0,
-    };
     Ok(Memory {
         finished,
         working,
         finished_ages: vec![in heap; 0u8; cells]?,
         working_ages: vec![in heap; 0u8; cells]?,
-        vectors: vec![in heap; still; cells]?,
+        vectors: vec![in heap; Vector::default(); cells]?,
         marks: vec![in heap; None; cells]?,
     })
 }
 
-// Makes calls by the transform that the script chose. (It and its callers hand on what `replay` takes.)
+// Makes calls by the transform that the script chose. (It and its callers hand on what `replay` takes: stage, memory and calls come from three
+// places, so a struct of them would be made for this one call.)
 fn replay_by<S: Store>(
     stage: Stage,
     memory: &mut Memory<S>,

@@ -7,7 +7,8 @@ use crate::cells::CellStore;
 use pictures::{Size, Store, side_of, start_of};
 use tables::copy_part;
 
-// A store that keeps a byte for each sample: plane 0 by rows, then planes 1 and 2.
+// A store that keeps a byte for each sample: plane 0 by rows, then planes 1 and 2. (The two stores differ in their order of memory, and so each has its own
+// `impl Store`: one over a trait of orders would have as many methods to write, and these two that tell the sizes besides.)
 pub type ByteStore = CellStore<u8, 384>;
 
 // Where a place is kept.

@@ -30,7 +30,7 @@ impl<C: Copy, const PER_MACROBLOCK: u16> CellStore<C, PER_MACROBLOCK> {
         format_in(format, Self::room(cells)).is_some()
     }
 
-    // The store over a memory; of size 0 by 0 where the memory does not suffice or the format is unknown.
+    // The store over a memory; of size 0 by 0 where the memory does not suffice or the format is unknown: this cannot fail, and `suffices` tells it beforehand.
     pub fn new(format: u8, memory: Vec<C>) -> Self
         ensures size { (result.size.columns, result.size.rows) ≡ size_in (numbered format) (length memory.items / PER_MACROBLOCK) }
         ensures memory { result.memory ≡ memory }

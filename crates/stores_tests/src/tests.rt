@@ -52,12 +52,16 @@ fn not_drawn<S: Store>(store: &S) -> u32 {
     })
 }
 
+// A store of nines, made by the format's number over memory that just suffices.
 fn bytes_of(heap: Global, format: Format) -> Result<ByteStore, AllocError> {
-    ByteStore::filled(heap, format, 9)
+    let memory = vec![in heap; 9u8; format.samples()]?;
+    Ok(ByteStore::new(u8::from(format), memory))
 }
 
+// As many words to a macroblock as 384 samples take, four to a word.
 fn tiles_of(heap: Global, format: Format) -> Result<TileStore, AllocError> {
-    TileStore::filled(heap, format, 0x0909_0909)
+    let memory = vec![in heap; 0x0909_0909u32; format.macroblocks() * 96]?;
+    Ok(TileStore::new(u8::from(format), memory))
 }
 
 // One drawing, one band and one copy through both stores.
@@ -145,6 +149,24 @@ fn memory_too_small(rt: HostRuntime) -> Result<(), Fail> {
     assert_eq!(rt; none.write(0, 0, 0, 1), false);
     let unknown = TileStore::new(7, vec![in heap; 0u32; 100_000]?);
     assert_eq!(rt; (unknown.columns(), unknown.rows()), (0, 0));
+    Ok(())
+}
+
+// A store that is made in new memory has its format's size, and its cell in every place.
+#[test]
+fn filled_with_a_cell(rt: HostRuntime) -> Result<(), Fail> {
+    let bytes = ByteStore::filled(rt.alloc(), Format::Qcif, 9)?;
+    let tiles = TileStore::filled(rt.alloc(), Format::Qcif, 0x0102_0304)?;
+    assert_eq!(rt; (bytes.columns(), bytes.rows()), (11, 9));
+    assert_eq!(rt; (tiles.columns(), tiles.rows()), (11, 9));
+    assert_eq!(rt;
+        differences(&bytes, &bytes_of(rt.alloc(), Format::Qcif)?),
+        0
+    );
+    assert_eq!(rt; bytes.into_memory().len(), 38_016);
+    let words = tiles.into_memory();
+    assert_eq!(rt; words.len(), 9_504);
+    assert_eq!(rt; words.iter().all(|word| *word == 0x0102_0304), true);
     Ok(())
 }
 

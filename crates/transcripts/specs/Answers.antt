@@ -5,6 +5,7 @@ use Rattle.records.specs.Shown.{refusal_text}
 use Rattle.calls.specs.declared.answers.Answer.{Answer}
 use Rattle.calls.specs.declared.answers.Answer.TheVariants.{Opened, Delivered, Closed, Sample, Age, Refused, OutOfTurn}
 use Rattle.calls.specs.Faults.{picture_refusal}
+use Rattle.calls.specs.Runs.{Calling, asking_age, asking_sample, closing, delivering, opening}
 use Rattle.transcripts.specs.declared.answers.Word.{Word}
 use Rattle.transcripts.specs.declared.answers.Word.TheVariants as word
 
@@ -17,6 +18,14 @@ word_text word.Sample = codes "sample"
 word_text word.Age = codes "age"
 word_text word.Ages = codes "ages"
 word_text word.Records = codes "records"
+
+-- the word that the answer to a call begins with
+abbrev pub word_for : Calling → Word
+word_for (opening kind rounding layout) = word.Open
+word_for (delivering segment bytes) = word.Deliver
+word_for closing = word.Close
+word_for (asking_sample plane across down) = word.Sample
+word_for (asking_age column row) = word.Age
 
 abbrev pub answer_text : Word → Answer → List ℕ
 answer_text w (Opened segments) = word_text w ++ (codes " ok " ++ decimal segments)

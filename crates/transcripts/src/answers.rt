@@ -1,8 +1,9 @@
 // The answer to a call, as the text of a line.
-ghost use Rattle.std.specs.Prelude.{Some};
-ghost use Rattle.transcripts.specs.Answers.{answer_text, word_text};
+ghost use Rattle.std.specs.Prelude.{◌≡◌, Some};
+ghost use Rattle.calls.specs.Runs.{call_of};
+ghost use Rattle.transcripts.specs.Answers.{answer_text, word_for, word_text};
 
-use calls::answers::Answer;
+use calls::answers::{Answer, Call};
 use script::line::Mistake;
 use std::fmt;
 
@@ -17,6 +18,21 @@ pub enum Word {
     Age,
     Ages,
     Records,
+}
+
+// The word that the answer to a call begins with.
+impl From<&Call<'_>> for Word {
+    ghost from_gives = { λ call word. word ≡ word_for (call_of call.now) };
+
+    fn from(call: &Call) -> Word {
+        match call {
+            Call::Open { .. } => Word::Open,
+            Call::Deliver { .. } => Word::Deliver,
+            Call::Close => Word::Close,
+            Call::Sample { .. } => Word::Sample,
+            Call::Age { .. } => Word::Age,
+        }
+    }
 }
 
 impl fmt::Display for Word {

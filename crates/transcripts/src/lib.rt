@@ -1,5 +1,5 @@
 // The answers to a script as text, a line for each, with the sums of the pictures that were closed and the count of the calls.
-// Relies on `calls` for what is answered and on `call_lines` for what is wrong with a line.
+// Relies on `calls` for what is answered and on `script` for what is wrong with a line.
 #![tactic(auto)]
 
 pub mod answers;

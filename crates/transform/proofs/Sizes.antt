@@ -62,9 +62,6 @@ sum_back w a b p q e d f = ap (λ z. z +ℤ to_z w (of_z w b)) e ∙ ap (λ z. p
 pub product_as : (w : Width) (r t y : ℤ) → r ≡ t → SFits w t → SFits w y → to_z w (of_z w r) *ℤ to_z w (of_z w y) ≡ t *ℤ y
 product_as w r t y e f g = ap (λ z. to_z w (of_z w z) *ℤ to_z w (of_z w y)) e ∙ product_back w t y f g
 
-pub narrow_back : (v w : Width) (z : ℤ) → SFits v z → SFits w z → to_z w (of_z w (to_z v (of_z v z))) ≡ z
-narrow_back v w z f g = ap (λ y. to_z w (of_z w y)) (to_z-of_z f) ∙ to_z-of_z g
-
 pub floor_shr : (z : ℤ) (m : ℕ) → shr_z z m ≡ floor z m
 unfolding floor
 floor_shr (pos a) m = refl

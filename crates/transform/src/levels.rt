@@ -19,7 +19,7 @@ const POSITIONS: [[u8; 8]; 8] = [
     [35, 36, 48, 49, 57, 58, 62, 63],
 ];
 
-// place < 64 stays a condition: to go over the table's rows instead would need a flat table, which the layout puts one number to a line
+// place < 64 stays a condition: to go over the table's rows instead would need a flat table, which the formatter puts one number to a line
 fn position(place: usize) -> usize
     requires { place < 64 }
     ensures value { result ≡ position_of place }
@@ -82,7 +82,6 @@ fn from_levels(quantizer: u8, levels: &[i8; 64]) -> [i16; 64]
     ensures { Gives result (from_level quantizer levels.now) }
 {
     let mut out = [0; 64];
-    // `array::from_fn` was slower in the passes of the transform; here it was not timed
     for (place, coefficient) in out.iter_mut().enumerate() {
         *coefficient = dequantize(quantizer, levels[position(place)]);
     }

@@ -14,6 +14,7 @@ mod levels;
 
 use levels::limit;
 pub use levels::{coefficients, dequantize, first_coefficient, with_sign};
+
 // The factors, by u and n: 2048 times the square root of 2 times cos((2n + 1)uπ/16), rounded, and 2048 for u = 0.
 const FACTORS: [[i64; 8]; 8] = [
     [2048, 2048, 2048, 2048, 2048, 2048, 2048, 2048],
@@ -61,7 +62,8 @@ fn factor(u: usize, n: usize) -> i64
     FACTORS[u][n]
 }
 
-// The sum over u of the factor for u and n times the number u across and v down.
+// The sum over u of the factor for u and n times the number u across and v down. (That the numbers are small is asked here and of the two functions around
+// it alone; a type for such blocks would be made of an array and taken apart again in each pass.)
 fn weigh(x: &[i64; 64], n: usize, v: usize) -> i64
     requires across { n < 8 }
     requires down { v < 8 }

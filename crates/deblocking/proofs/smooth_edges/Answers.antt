@@ -1,13 +1,10 @@
 use Rattle.std.proofs.Common.{◌&&◌, eqb, ltb, sym, refl, ap, ◌∙◌, arith}
 use Rattle.std.proofs.lemmas.Bool.{and_parts}
 use Rattle.pictures.specs.Pictures.{painted}
-use Rattle.pictures.proofs.Painting.{none, alike, planes_none, planes_more, planes_all}
+use Rattle.pictures.proofs.Painting.{alike, planes_more, planes_all}
 use Rattle.deblocking.specs.Edges.{edges_in, quantizer_at, smoothed, is_vertical, turn}
 use Rattle.deblocking.proofs.Edges.{then_smoothed, apart_planes, inside_says, turned_twice}
 use Rattle.deblocking.proofs.smooth_edges.Goals as goal
-
-pub loop-plane-init : goal.loop-plane-init
-loop-plane-init g c = none _ _ _ (λ q u v. planes_none (edges_in c.turn_segment-inner.result q u v) q)
 
 pub loop-plane-preserved : goal.loop-plane-preserved
 loop-plane-preserved g c =

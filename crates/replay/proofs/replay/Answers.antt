@@ -1,18 +1,10 @@
-use Rattle.std.proofs.Common.{sym, refl, ap, subst, rules}
+use Rattle.std.proofs.Common.{refl, ap, rules}
 use Rattle.std.proofs.lemmas.List.{drop_more, drop_all}
 use Rattle.calls.specs.declared.answers.Call.TheVariants.{Open}
 use Rattle.calls.specs.Runs.{calls_of}
 use Rattle.calls.proofs.Law.{law}
-use Rattle.reel.specs.Memories.{held_in}
-use Rattle.replay.proofs.Replays.{Left, all_done, none_done, one_done, size_kept}
+use Rattle.replay.proofs.Replays.{all_done, one_done, size_kept}
 use Rattle.replay.proofs.replay.Goals as goal
-
-pub loop-call-init : goal.loop-call-init
-loop-call-init g c =
-    let meaning = g.T.Transform.meaning c.args.transform.now in
-    let held = held_in g.S.Store.picture c.args.memory.now in
-    let calls = calls_of c.args.calls.now in
-    (subst (Left meaning c.args.stage held calls calls c.args.stage held) (sym c.in-Ok.ensures.items) (none_done meaning c.args.stage held calls), search rules)
 
 pub loop-call-preserved : goal.loop-call-preserved
 loop-call-preserved g c = (

@@ -1,4 +1,4 @@
-use Rattle.std.proofs.Common.{◌≡◌, refl, ap, sym, ◌∙◌, rules}
+use Rattle.std.proofs.Common.{◌≡◌, refl, ap, rules}
 use Rattle.calls.specs.declared.answers.Answer.TheVariants.{Delivered}
 use Rattle.calls.specs.Runs.{call_of, delivering}
 use Rattle.replay.specs.declared.Stage.TheVariants.{Open}

@@ -5,6 +5,7 @@ use Rattle.conformance.specs.Draws.{drawn}
 use Rattle.conformance.proofs.draws.number.Goals as goal
 
 -- the product, and its quotient
+
 product_size : (x a b : ℕ) → x < 2147483648 → a < 65536 → b < 65536 → x * (a + b + 1) ≤ 2147483647 * 131071
 product_size x a b h k l = mul-le x (a + b + 1) 2147483647 131071 (omega arith) (omega arith)
 
@@ -16,17 +17,6 @@ difference_fits q low z h k e = omega (arith, ints)
 
 difference_is : (q low : ℕ) (z : ℤ) → q ≤ 131071 → low < 65536 → z ≡ pos low → to_z w32 (of_z w32 (to_z w32 q -ℤ to_z w32 (of_z w32 z))) ≡ pos q -ℤ pos low
 difference_is q low z h k e = omega (arith, ints)
-
-pub overflow_mul-part : goal.overflow_mul-part
-overflow_mul-part c = let h = product_size c.from-3.result c.from.result c.from-2.result (omega arith) (omega arith) (omega arith) in record { fits = omega arith }
-
-pub overflow_cast-result : goal.overflow_cast-result
-overflow_cast-result c = let h = part_size c.from-3.result c.from.result c.from-2.result (omega arith) (omega arith) (omega arith) in omega (arith, ints)
-
-pub overflow_sub-result : goal.overflow_sub-result
-overflow_sub-result c =
-    difference_fits _ c.args.range.low _ (part_size c.from-3.result c.from.result c.from-2.result (omega arith) (omega arith) (omega arith)) (omega arith)
-    c.from-4.ensures
 
 pub returns : goal.returns
 unfolding drawn

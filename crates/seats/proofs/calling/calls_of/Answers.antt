@@ -1,17 +1,14 @@
-use Rattle.std.proofs.Common.{vec_items, sym, ◌∙◌}
-use Rattle.seats.proofs.Gathered.{no_call, no_more, one_call}
+use Rattle.std.proofs.Common.{rules, tests}
+use Rattle.std.proofs.lemmas.Iterator.{YieldsList-from_slice}
+use Rattle.std.proofs.lemmas.Iterator.Consumers.{map_from_collect}
+use Rattle.calls.specs.Runs.{call_of}
+use Rattle.call_lines.specs.Lines.{told}
+use Rattle.seats.specs.Turns.{call_in}
+use Rattle.seats.proofs.Picked.{YieldsList-from_read_filter_map}
 use Rattle.seats.proofs.calling.calls_of.Goals as goal
 
 pub returns : goal.returns
-returns c = sym (no_more (vec_items c.loop-line.calls) c.args.lines.now c.loop-line.line-index c.loop-line-test.false) ∙ c.loop-line.invariant
-
-pub loop-line-preserved-in_default : goal.loop-line-preserved-in_default
-loop-line-preserved-in_default c =
-    sym (no_call (vec_items c.loop-line.calls) c.args.lines.now c.loop-line.line-index c.line-item.result c.loop-line-test.true c.line-item.is c.in_default.ensures)
-    ∙ c.loop-line.invariant
-
-pub loop-line-preserved : goal.loop-line-preserved
-loop-line-preserved c =
-    rw c.in_ok-push.ensures.items
-    (sym (one_call (vec_items c.loop-line.calls) c.args.lines.now c.loop-line.line-index c.line-item.result c.in-Some.call c.loop-line-test.true c.line-item.is c.in-Some.ensures)
-    ∙ c.loop-line.invariant)
+returns c =
+    let all = map_from_collect c.collect.result c.collect.ensures.ran
+    (YieldsList-from_read_filter_map call_of _ (λ l. call_in (told l)) (YieldsList-from_slice c.args.lines.now cc) c.filter_map.ensures.closure (λ x r q k. search (rules, tests))) in
+    search (rules, all)

@@ -1,5 +1,4 @@
-use Rattle.std.proofs.Common.{◌≡◌, ◌+◌, ◌-◌, ◌*◌, ◌≤◌, drop, sym, refl, ap, ◌∙◌, mul-le-mul_right, zero-mul, arith, length-drop}
-use Rattle.std.proofs.lemmas.Nat.{mul-le}
+use Rattle.std.proofs.Common.{◌≡◌, ◌+◌, ◌-◌, ◌*◌, drop, sym, refl, ap, ◌∙◌, zero-mul, arith}
 use Rattle.std.proofs.lemmas.List.{drop-drop}
 use Rattle.records.specs.Again.{records_of}
 use Rattle.pictures.proofs.Painting.{alike, both, none}
@@ -38,19 +37,3 @@ returns g c =
     let s = c.args.self.now.window.segment in
     let end : c.loop-row.row ≡ s.bottom = omega (arith, c.loop-row.auto) in
     rw end at c.loop-row.invariant.0 ∙ alike _ _ _ _ (λ q u v h. rectangle_covers (g.S.Store.picture c.args.working.now) s q u v h)
-
-pub rebuild_row-requires : goal.rebuild_row-requires
-rebuild_row-requires g c =
-    let s = c.args.self.now.window.segment in
-    let row = c.loop-row.row in
-    let w = s.right - s.left in
-    let down : row + 1 - s.top ≤ s.bottom - s.top = omega arith in
-    let next = row_cells row s.top w c.loop-row.auto.row in
-    let wide : w ≤ 22 = omega arith in
-    let high : row - s.top ≤ 22 = omega arith in
-    let small = mul-le (row - s.top) w 22 22 high wide in
-    record {
-      row = omega arith;
-      first = omega (arith, small, c.requires.start);
-      records = rw c.loop-row.invariant.1 (simp length-drop (omega (arith, c.requires.records, mul-le-mul_right w down, next)));
-    }

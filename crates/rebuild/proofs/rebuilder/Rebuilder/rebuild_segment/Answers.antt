@@ -36,16 +36,6 @@ set_cells_from-requires g c =
       };
     }
 
-pub rebuild_samples-requires : goal.rebuild_samples-requires
-rebuild_samples-requires g c =
-    let s = c.args.self.now.window.segment in
-    let w = s.right - s.left in
-    let all = c.new-2.ensures.count in
-    let wide : w ≤ 22 = omega arith in
-    let high : s.top ≤ 22 = omega arith in
-    let few = mul-le s.top w 22 22 high wide in
-    record { records = omega (arith, all); start = omega (arith, few) }
-
 pub returns : goal.returns
 returns g c =
     let a = c.args in

@@ -1,7 +1,6 @@
-use Rattle.std.proofs.Common.{sym, refl, ◌∙◌, length-set}
+use Rattle.std.proofs.Common.{sym, ◌∙◌, length-set}
 use Rattle.std.proofs.lemmas.Result.{err_from_is_err_and}
 use Rattle.records.specs.Reading.{state_of}
-use Rattle.records.proofs.Gathered.{after_none}
 use Rattle.records.proofs.Blocks.{blocks_end, blocks_stop, blocks_more}
 use Rattle.records.proofs.reader.Words.read_blocks.Goals as goal
 
@@ -9,9 +8,6 @@ pub returns-in_err-gathered : goal.returns-in_err-gathered
 returns-in_err-gathered c =
     let p = err_from_is_err_and c.from_residual.result c.from_residual.ensures.1 in
     rw (p.1, p.2) (sym (blocks_stop _ _ _ _ (state_of c.loop-block.self) c.loop-block.gathered _ c.loop-block-test.true c.in_err-gathered.ensures) ∙ c.loop-block.invariant.0)
-
-pub loop-block-init : goal.loop-block-init
-loop-block-init c = (after_none _, refl)
 
 pub loop-block-preserved : goal.loop-block-preserved
 loop-block-preserved c = (

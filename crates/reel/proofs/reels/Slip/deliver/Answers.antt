@@ -1,22 +1,15 @@
-use Rattle.std.proofs.Common.{◌≡◌, ◌<◌, Ok, Err, length, sym, refl, ap, ◌∙◌, arith}
+use Rattle.std.proofs.Common.{◌<◌, Ok, length, sym, refl, ap, ◌∙◌, arith}
 use Rattle.pictures.specs.declared.layouts.Segment.{Segment}
 use Rattle.pictures.proofs.Rows.{segmented}
 use Rattle.rebuild.specs.Rebuilt.{accepted, count_of}
 use Rattle.calls.specs.Effects.{segment_rebuilt}
 use Rattle.calls.specs.Held.{fits}
-use Rattle.reel.specs.Calls.{held_after, judged}
+use Rattle.reel.specs.Calls.{held_after}
 use Rattle.reel.specs.Memories.{held_in}
-use Rattle.reel.proofs.Deliveries.{delivery_granted, delivery_refused, size_delivered}
+use Rattle.reel.proofs.Deliveries.{delivery_granted, size_delivered}
 use Rattle.calls.proofs.Sizes.{fitting, some_column}
 use Rattle.reel.proofs.Fits.{few_segments, room}
 use Rattle.reel.proofs.reels.Slip.deliver.Goals as goal
-
-pub returns-in-Err : goal.returns-in-Err
-returns-in-Err g c =
-    let held = held_in g.S.Store.picture c.args.memory.now in
-    let e : judged c.args.self held c.args.segment c.args.bytes.now ≡ Err c.in-Err.fault
-    = delivery_refused c.args.self held c.args.segment c.args.bytes.now c.in-Err.fault c.in-Err.ensures in
-    record { slip = rw e refl; answer = rw e refl; memory = rw e refl; format = refl; size = refl }
 
 pub rebuild_in-requires : goal.rebuild_in-requires
 rebuild_in-requires g c =

@@ -1,14 +1,7 @@
 use Rattle.std.proofs.Common.{◌∙◌, arith}
 use Rattle.calls.specs.Effects.{fill_sample, filled_picture}
-use Rattle.pictures.proofs.Painting.{none}
-use Rattle.reel.proofs.Gaps.{fill_all, fill_more, none_missing}
+use Rattle.reel.proofs.Gaps.{fill_all, fill_more}
 use Rattle.reel.proofs.reels.Slip.fill_gaps.Goals as goal
-
-pub loop-number-init : goal.loop-number-init
-loop-number-init g c = none _ _ _ (none_missing c.args.self.now.reel.format c.args.self.now.layout c.args.self.now.accepted)
-
-pub fill_gap-requires : goal.fill_gap-requires
-fill_gap-requires g c = omega (arith, c.segments-number-end.ensures.few, c.loop-number-test.true)
 
 pub loop-number-preserved : goal.loop-number-preserved
 loop-number-preserved g c =

@@ -1,4 +1,4 @@
-use Rattle.std.proofs.Common.{◌≡◌, length, vec_items, sym, refl, ap, ◌∙◌}
+use Rattle.std.proofs.Common.{◌≡◌, vec_items, sym, refl, ap, ◌∙◌}
 use Rattle.std.proofs.lemmas.List.{with_items_is}
 use Rattle.std.specs.Vec.{with_items}
 use Rattle.calls.specs.Effects.{filled_ages}
@@ -6,25 +6,6 @@ use Rattle.reel.specs.Memories.{held_in}
 use Rattle.calls.proofs.Sizes.{fitting}
 use Rattle.reel.proofs.Holding.{closed_held}
 use Rattle.reel.proofs.reels.Slip.finish.Goals as goal
-
-pub fill_gaps-requires : goal.fill_gaps-requires
-fill_gaps-requires g c =
-    let size = fitting c.args.self.now.reel.format (held_in g.S.Store.picture c.args.memory.now) c.requires in
-    record { wide = size.working_wide; high = size.working_high }
-
-pub fill_ages-requires : goal.fill_ages-requires
-fill_ages-requires g c =
-    let size = fitting c.args.self.now.reel.format (held_in g.S.Store.picture c.args.memory.now) c.requires in
-    record { finished = ap length c.deref.ensures.value ∙ size.finished_ages; working = ap length c.deref_mut.ensures.value ∙ size.working_ages }
-
-pub keep_ages-requires : goal.keep_ages-requires
-keep_ages-requires g c =
-    let size = fitting c.args.self.now.reel.format (held_in g.S.Store.picture c.args.memory.now) c.requires in
-    let was = c.args.memory.now in
-    let ages = c.fill_ages.new.working in
-    let kept : (with_items was.working_ages ages).items ≡ ages = with_items_is was.working_ages ages (c.fill_ages.auto.working ∙ c.deref_mut.ensures.len) in
-    ap length (c.deref-2.ensures.value ∙ kept) ∙ c.fill_ages.auto.working ∙ ap length c.deref_mut.ensures.value ∙ size.working_ages
-    ∙ sym (ap length c.deref_mut-2.ensures.value ∙ size.finished_ages)
 
 pub returns : goal.returns
 returns g c =

@@ -1,11 +1,7 @@
 use Rattle.std.proofs.Common.{not, ap, ◌∙◌}
 use Rattle.pictures.specs.Segments.{has_bit}
 use Rattle.calls.specs.Effects.{missing}
-use Rattle.reel.proofs.Fits.{few_segments}
 use Rattle.reel.proofs.reels.Slip.is_missing.Goals as goal
-
-pub is_accepted-requires : goal.is_accepted-requires
-is_accepted-requires c = few_segments c.args.self.now.reel.format c.args.self.now.layout c.segment_of_row.result (c.segment_of_row.ensures.inside c.requires)
 
 pub returns : goal.returns
 unfolding missing
