@@ -130,7 +130,7 @@ fn new_line(fields: &[u8]) -> Result<Line, Mistake>
     Ok(Line::New { format })
 }
 
-// The fields after `open`. (It and those below differ in the names that they give their numbers.)
+// The fields after `open`. (It and those below share `numbers`, and differ in the names that they give them.)
 fn open_line(fields: &[u8]) -> Result<Line, Mistake>
     ensures { result_map meant result ≡ open_of fields.now }
 {
@@ -208,7 +208,8 @@ fn plain_line(call: &[u8], fields: &[u8]) -> Result<Line, Mistake>
     }
 }
 
-// A line by its first word. (No `match` on its bytes, for the reason in `plain_line`.)
+// A line by its first word. (No `match` on its bytes: tried for `records` where `script` reads it, what is said at `_`
+// stayed open.)
 fn worded_line(heap: Global, call: &[u8], fields: &[u8]) -> Result<Line, LineError>
     ensures { Says meant result (worded call.now fields.now) }
 {

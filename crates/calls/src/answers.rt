@@ -3,7 +3,7 @@ use crate::faults::PictureFault;
 use records::types::Delivered;
 
 // A call on a reel or on its slip. (Its numbers are the caller's, one by one: what stands for no kind, rounding or plane
-// is refused by the call, in its turn.)
+// is refused by the call, in its turn. Kind, rounding and layout stay apart: a struct of them would be made and taken apart again at each call.)
 #[derive(Clone, Copy)]
 pub enum Call<'a> {
     Open {

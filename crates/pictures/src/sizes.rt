@@ -35,7 +35,7 @@ impl From<Format> for Size {
 }
 
 // No macroblocks.
-// By hand, since no derive makes a type with ghost fields.
+// By hand: the derive of `Default` is refused beside ghost fields.
 impl Default for Size {
     ghost is_default = { λ size. (size.columns ≡ 0) × (size.rows ≡ 0) };
 

@@ -11,7 +11,8 @@ use pictures::Store;
 use prediction::window::Window;
 use samples::add_residual;
 
-// The prediction at a place, by a vector; without a vector nothing is predicted.
+// The prediction at a place, by a vector; without a vector nothing is predicted. (The place is asked to be small as the window asks it, in the machine words
+// that stores take.)
 fn predicted_sample<S: Store>(
     window: &Window<S>,
     source: Option<Vector>,
@@ -54,7 +55,8 @@ pub fn rebuild_block<S: Store>(
     ensures { let w = window.now in S.picture working.new ≡ painted (block_at place.plane place.left place.top) (summed w.segment (rounding_of w.rounding) (S.picture w.finished.now).sample source residual.now) (S.picture working.old) }
 {
     let BlockPlace { plane, left, top } = place;
-    // A copy of its own, so that what the window says is not read again after each sample that is written.
+    // A copy of its own, so that what the window says is not read again after each sample that is written; field by field, since no derive copies a struct
+    // that holds `&S` and ghost fields.
     let own = Window {
         finished: window.finished,
         segment: window.segment,

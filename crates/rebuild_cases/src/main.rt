@@ -134,8 +134,8 @@ impl<'a, S: Store + Drop, T: Transform> Case<'a, S, T> {
         Ok(())
     }
 
-    // Makes the working picture and ages the finished ones, and gives their sums. (`seats` makes the same of its memory; one function of store and ages for
-    // both would be as long.)
+    // Makes the working picture and ages the finished ones, and gives their sums. (`seats` makes the same of its memory, and proves
+    // it of what a memory holds: one function for both would be given store and ages apart, and that proof would have to join them again.)
     fn close(&mut self) -> PictureSums {
         copy_picture(&self.working, &mut self.finished);
         tables::copy(&self.working_ages, &mut self.finished_ages);

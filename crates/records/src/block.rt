@@ -86,7 +86,7 @@ impl<'a> Words<'a> {
         }
     }
 
-    // One block of a macroblock. (Whether it is INTRA and the pattern are the head's; a skipped macroblock has neither and no blocks to read.)
+    // One block of a macroblock. (A flag and the pattern, and not the head: a head may be of a skipped macroblock, which has no blocks.)
     pub(crate) fn read_block(
         &mut self,
         intra: bool,

@@ -29,7 +29,7 @@ fn with_mark(marks: u32, segment: u32) -> u32
     marks | 1 << segment
 }
 
-// The macroblocks of a segment. (The rebuilding has the same product in two steps, for it needs the columns and the rows by themselves.)
+// The macroblocks of a segment. (The rebuilding has the same product, since it needs the columns by themselves too.)
 fn macroblocks_in(segment: Segment) -> usize
     requires { (segment.left ≤ segment.right) × ((segment.right ≤ 22) × ((segment.top ≤ segment.bottom) × (segment.bottom ≤ 18))) }
     ensures { result ≡ count_of segment }

@@ -12,7 +12,8 @@ use transform::Transform;
 #[cfg(test)]
 mod tests;
 
-// (The kind is the caller's number, as the opening takes it.) Records a picture of one segment: opens it, delivers its bytes and closes it. A memory that an opening was accepted over is not refused at the closing.
+// Records a picture of one segment: opens it, delivers its bytes and closes it. A memory that an opening was accepted over is not refused at the closing.
+// (The kind is the caller's number, as the opening takes it.)
 pub fn record_picture<S: Store, T: Transform>(
     reel: Reel,
     memory: &mut Memory<S>,

@@ -46,8 +46,8 @@ fn with_tables<S: Drop>(
     })
 }
 
-// Makes calls by the transform that the script chose. (It and its callers hand on what `replay` takes: stage, memory and calls come from three
-// places, so a struct of them would be made for this one call.)
+// Makes calls by the transform that the script chose, which is known only as it is read: so two arms. (Stage, memory and calls come from three places, and
+// a struct of them would be made for this one call.)
 fn replay_by<S: Store>(
     stage: Stage,
     memory: &mut Memory<S>,

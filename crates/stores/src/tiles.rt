@@ -96,7 +96,8 @@ impl Store for TileStore {
                 return across + 4;
             }
         }
-        // One sample, as the trait's own body has it, which an impl with a body of its own cannot call.
+        // One sample, as the trait's own body has it, which an impl with a body of its own cannot call; three lines, which a function for both stores would have
+        // too, with a contract of the trait's length.
         let value = other.sample(plane, across, down);
         self.write(plane, across, down, value);
         across + 1

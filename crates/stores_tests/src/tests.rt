@@ -14,7 +14,8 @@ fn drawn(plane: u8, across: usize, down: usize) -> u8 {
         % 251) as u8
 }
 
-// How many places pass a test, of so many planes as large as CIF's, and so of many places outside a smaller picture.
+// How many places pass a test, of so many planes as large as CIF's, and so of many places outside a smaller picture. (One walk for all tests, by a loop in
+// each direction: the test may write, and of a chain whose closure writes nothing is known.)
 fn count_places<F: FnMut(u8, usize, usize) -> bool>(planes: u8, mut test: F) -> u32
     requires { F.IsAlwaysCallable test }
 {
