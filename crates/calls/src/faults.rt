@@ -46,7 +46,8 @@ impl From<UnknownFormat> for PictureFault {
     }
 }
 
-// A refusal of the picture layer, which concerns no word.
+// A refusal of the picture layer, which concerns no word. (`records` writes the like out where bytes are no words: one function for both would be public for
+// that one place.)
 fn plain(number: u8) -> Refusal
     ensures { result ≡ plainly number }
 {

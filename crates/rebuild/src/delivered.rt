@@ -48,7 +48,8 @@ fn set_cells_from(
 impl<S: Store, T: Transform> Rebuilder<'_, '_, S, T> {
     // Rebuilds the window's segment from an accepted delivery: sets its samples in the working store and its cells in the tables, and no others. The
     // segment spans the picture's columns.
-    // (The tables stay four parameters, for the reason beside `set_cells` of `motion`.)
+    // (The tables stay four parameters, for the reason beside `set_cells` of `motion`. Kind and bytes, and no `Delivery`: they are read twice, for the cells and for the
+    // samples, and a `Delivery` is used up by its reading and holds what no derive copies.)
     pub fn rebuild_segment(
         &self,
         working: &mut S,

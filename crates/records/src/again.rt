@@ -12,7 +12,8 @@ use crate::reader::Words;
 use crate::types::{Delivered, Macroblock, PictureKind};
 
 impl<'a> Delivery<'a> {
-    // A delivery that `check_delivery` has accepted.
+    // A delivery that `check_delivery` has accepted. (Kind, count and bytes stay apart, here and where they are checked: callers have them one by one, and a struct
+    // of them, made and taken apart at each call, would hold no fact that the three do not.)
     pub fn new(kind: PictureKind, macroblocks: usize, bytes: &'a [u8]) -> Delivery<'a>
         requires { is_ok (read kind macroblocks bytes.now) ≡ true }
         ensures records { read kind macroblocks bytes.now ≡ Ok (records_of result) }

@@ -66,17 +66,6 @@ fn new_reel() -> Result<Reel, Fail> {
     }
 }
 
-// The number that an opening over a memory is refused with, if it is.
-fn refused_opening(reel: Reel, wrong: &mut Memory<ByteStore>) -> (Reel, Option<u8>) {
-    match reel.open(wrong, 0, 0, 1) {
-        Ok((slip, _)) => match slip.close(wrong) {
-            Ok((reel, _)) => (reel, None),
-            Err(_) => unreachable(),
-        },
-        Err((reel, fault)) => (reel, Some(number_of(fault))),
-    }
-}
-
 // The number that a delivery over a memory is refused with, if it is, on a slip that is opened and handed in over another. (Reel and memories are passed
 // apart here and below, as the calls under test take them.)
 fn refused_delivery(
@@ -96,21 +85,22 @@ fn refused_delivery(
     }
 }
 
-// The number that a closing over a memory is refused with, if it is; the slip that it hands back is closed over another, with these marks.
+// The number that a closing over a memory is refused with, if it is; the slip that it hands back is closed over another, with these marks. A refused
+// opening has no marks.
 fn refused_closing(
     reel: Reel,
     right: &mut Memory<ByteStore>,
     wrong: &mut Memory<ByteStore>,
-) -> (Option<u8>, u32) {
+) -> (Option<u8>, Option<u32>) {
     match reel.open(right, 0, 0, 1) {
         Ok((slip, _)) => match slip.close(wrong) {
-            Ok((_, marks)) => (None, marks),
+            Ok((_, marks)) => (None, Some(marks)),
             Err((slip, fault)) => match slip.close(right) {
-                Ok((_, marks)) => (Some(number_of(fault)), marks),
+                Ok((_, marks)) => (Some(number_of(fault)), Some(marks)),
                 Err(_) => unreachable(),
             },
         },
-        Err(_) => (None, 9),
+        Err((_, fault)) => (Some(number_of(fault)), None),
     }
 }
 
@@ -139,11 +129,14 @@ fn wrong_sizes(rt: HostRuntime) -> Result<(), Fail> {
     ] {
         let mut right = memory_but(heap, None)?;
         let mut wrong = memory_but(heap, Some(part))?;
-        let (reel, opening) = refused_opening(new_reel()?, &mut wrong);
+        let (reel, opening) = pass_picture(new_reel()?, &mut wrong);
         assert_eq!(rt; opening, Some(2));
         let (reel, delivery) = refused_delivery(reel, &mut right, &mut wrong);
         assert_eq!(rt; delivery, Some(2));
-        assert_eq!(rt; refused_closing(reel, &mut right, &mut wrong), (Some(2), 0));
+        assert_eq!(rt;
+            refused_closing(reel, &mut right, &mut wrong),
+            (Some(2), Some(0))
+        );
     }
     Ok(())
 }

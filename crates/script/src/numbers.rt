@@ -15,7 +15,7 @@ fn push_digit(value: u32, digit: u8) -> Option<u32>
     value.checked_mul(10)?.checked_add(u32::from(digit - b'0'))
 }
 
-// The number that a field of decimal digits stands for, below 2^32.
+// The number that a field of decimal digits stands for, below 2^32. (Not by `parse`: a field is bytes and no `str`, and a sign, which `parse` takes, is no digit.)
 pub fn number(field: &[u8]) -> Option<u32>
     ensures { result ≡ number_of field.now }
 {

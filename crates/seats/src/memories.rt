@@ -47,7 +47,8 @@ fn with_tables<S: Drop>(
 }
 
 // Makes calls by the transform that the script chose, which is known only as it is read: so two arms. (Stage, memory and calls come from three places, and
-// a struct of them would be made for this one call.)
+// a struct of them would be made for this one call. That the memory has the reel's size, which a seat holds, is asked here and below, since a seat is taken apart
+// while a call is made.)
 fn replay_by<S: Store>(
     stage: Stage,
     memory: &mut Memory<S>,

@@ -3,7 +3,7 @@ use pictures::{Format, Segment, Store, UnknownFormat, copy_picture, copy_segment
 use std::alloc::{AllocError, Global};
 use std::process::Abort;
 use std::test::Fail;
-use stores::{ByteStore, TileStore};
+use stores::{ByteStore, CellStore, TileStore};
 
 // The value that the drawing has at a place.
 fn drawn(plane: u8, across: usize, down: usize) -> u8 {
@@ -53,16 +53,23 @@ fn not_drawn<S: Store>(store: &S) -> u32 {
     })
 }
 
-// A store of nines, made by the format's number over memory that just suffices.
-fn bytes_of(heap: Global, format: Format) -> Result<ByteStore, AllocError> {
-    let memory = vec![in heap; 9u8; format.samples()]?;
-    Ok(ByteStore::new(u8::from(format), memory))
+// A store of cells that are alike, made by the format's number over memory that just suffices.
+fn store_of<C: Copy, const PER_MACROBLOCK: u16>(
+    heap: Global,
+    format: Format,
+    cell: C,
+) -> Result<CellStore<C, PER_MACROBLOCK>, AllocError> {
+    let memory = vec![in heap; cell; format.macroblocks() * PER_MACROBLOCK as usize]?;
+    Ok(CellStore::new(u8::from(format), memory))
 }
 
-// As many words to a macroblock as 384 samples take, four to a word.
+// A store of nines.
+fn bytes_of(heap: Global, format: Format) -> Result<ByteStore, AllocError> {
+    store_of(heap, format, 9)
+}
+
 fn tiles_of(heap: Global, format: Format) -> Result<TileStore, AllocError> {
-    let memory = vec![in heap; 0x0909_0909u32; format.macroblocks() * 96]?;
-    Ok(TileStore::new(u8::from(format), memory))
+    store_of(heap, format, 0x0909_0909)
 }
 
 // One drawing, one band and one copy through both stores.

@@ -77,7 +77,7 @@ pub fn first_coefficient(code: u8) -> i16
     }
 }
 
-// The coefficients of the levels at all positions, by place.
+// The coefficients of the levels at all positions, by place. (A loop: by `array::from_fn` what it ensures stayed open.)
 fn from_levels(quantizer: u8, levels: &[i8; 64]) -> [i16; 64]
     ensures { Gives result (from_level quantizer levels.now) }
 {
