@@ -208,8 +208,7 @@ fn plain_line(call: &[u8], fields: &[u8]) -> Result<Line, Mistake>
     }
 }
 
-// A line by its first word. (No `match` on its bytes: tried for `records` where `script` reads it, what is said at `_`
-// stayed open.)
+// A line by its first word. (No `match` on its bytes: tried for a single word, what is said at `_` stayed open.)
 fn worded_line(heap: Global, call: &[u8], fields: &[u8]) -> Result<Line, LineError>
     ensures { Says meant result (worded call.now fields.now) }
 {
@@ -242,10 +241,14 @@ mod tests {
     use super::*;
     use std::test::Fail;
 
-    // The segment of a delivery, and how many bytes it has.
+    // The number of a delivery's segment, or of the macroblocks of records, and how many bytes there are.
     fn read(heap: Global, line: &[u8]) -> Option<(u32, usize)> {
         match read_line(heap, line) {
             Ok(Ok(Some(Line::Deliver { segment, bytes }))) => Some((segment, bytes.len())),
+            Ok(Ok(Some(Line::Records(records)))) => Some((
+                records.macroblocks,
+                records.bytes.len(),
+            )),
             _ => None,
         }
     }
@@ -256,6 +259,7 @@ mod tests {
         assert_eq!(rt; read(heap, b"deliver 3 c0ff # two bytes"), Some((3, 2)));
         assert_eq!(rt; read(heap, b"deliver 0 -"), Some((0, 0)));
         assert_eq!(rt; read(heap, b"deliver c0ff"), None);
+        assert_eq!(rt; read(heap, b"records 1 99 0aFF # two bytes"), Some((99, 2)));
         Ok(())
     }
 }

@@ -82,7 +82,7 @@ fn tell_ages(seat: &Option<Seat>, transcript: &mut Transcript) {
     }
 }
 
-// Tells the macroblocks of a delivery, or its refusal. (`desktern` prints the same as it comes; only the loop is alike.)
+// Tells the macroblocks of a delivery, or its refusal.
 fn tell_records(records: &Records, transcript: &mut Transcript) {
     let macroblocks = records.macroblocks as usize;
     match Delivery::checked(records.kind, macroblocks, records.bytes.as_slice()) {

@@ -1,4 +1,4 @@
--- What a line of a script says.
+-- What the fields of a line say.
 use Rattle.std.specs.Prelude.{◌≡◌, ℕ, cond, List, [], length, Some, None, Ok, Err, Result, vec_items, codes, Option, ◌==◌, ⊤}
 use Rattle.std.specs.Str.{bytes_eq}
 use Rattle.records.specs.declared.types.PictureKind.{PictureKind}
@@ -8,7 +8,7 @@ use Rattle.script.specs.declared.line.LineError.TheVariants.{OutOfMemory, Wrong}
 use Rattle.script.specs.declared.line.Mistake.{Mistake}
 use Rattle.script.specs.declared.line.Mistake.TheVariants as mistake
 use Rattle.script.specs.declared.line.Records.{Records}
-use Rattle.script.specs.Fields.{after_field, field_of, is_hash, up_to}
+use Rattle.script.specs.Fields.{after_field, field_of}
 use Rattle.script.specs.Numbers.{number_of, pairs_of}
 
 -- bytes to be read as records, by their meaning
@@ -58,10 +58,3 @@ records_of fields =
 abbrev pub result_map : {X Y : Type 0} → (X → Y) → Result X Mistake → Result Y Mistake
 result_map f (Ok x) = Ok (f x)
 result_map f (Err m) = Err m
-
--- a line, up to a comment; a blank one says nothing
-abbrev pub line_of : List ℕ → Result (Option Meaning) Mistake
-line_of bytes =
-    cond (length (field_of (up_to is_hash bytes)) == 0) (Ok None)
-    (cond (bytes_eq (field_of (up_to is_hash bytes)) (codes "records")) (result_map Some (records_of (after_field (up_to is_hash bytes))))
-    (Err mistake.Call))

@@ -1,10 +1,10 @@
-// What a line of a script says, or what is wrong with it.
+// What the fields of a line say that asks for the records of a delivery, and what may be wrong with any line.
 ghost use Rattle.std.specs.Prelude.{◌≡◌, ℕ, IfOk, vec_items, codes};
 ghost use Rattle.std.specs.Option.{option_map};
 ghost use Rattle.script.specs.declared.line.LineError.TheVariants.{OutOfMemory, Wrong};
-ghost use Rattle.script.specs.Lines.{Says, bytes_of, end_of, kind_of, line_of, meant, records_of};
+ghost use Rattle.script.specs.Lines.{Says, bytes_of, end_of, kind_of, meant, records_of};
 
-use crate::fields::{is_text, split_field, without_comment};
+use crate::fields::split_field;
 use crate::numbers::{number, unhex};
 use records::types::PictureKind;
 use std::alloc::{AllocError, Global};
@@ -123,40 +123,25 @@ pub fn records_line(heap: Global, fields: &[u8]) -> Result<Records, LineError>
     })
 }
 
-// What a line says, if it is not blank.
-pub fn parse_line(heap: Global, line: &[u8]) -> Result<Option<Records>, LineError>
-    ensures { Says (option_map meant) result (line_of line.now) }
-{
-    let (call, fields) = split_field(without_comment(line));
-    // no `match` on the word's seven bytes: what the word says stayed open
-    if call.is_empty() {
-        Ok(None)
-    } else if is_text(call, b"records") {
-        Ok(Some(records_line(heap, fields)?))
-    } else {
-        Err(LineError::Wrong(Mistake::Call))
-    }
-}
-
 #[cfg(test)]
 mod tests {
     use super::*;
     use std::test::Fail;
 
-    // How many macroblocks and bytes a line of records tells.
-    fn read(heap: Global, line: &[u8]) -> Option<(u32, usize)> {
-        match parse_line(heap, line) {
-            Ok(Some(records)) => Some((records.macroblocks, records.bytes.len())),
-            _ => None,
+    // How many macroblocks and bytes the fields after `records` tell.
+    fn read(heap: Global, fields: &[u8]) -> Option<(u32, usize)> {
+        match records_line(heap, fields) {
+            Ok(records) => Some((records.macroblocks, records.bytes.len())),
+            Err(_) => None,
         }
     }
 
     #[test]
     fn records_are_read(rt: HostRuntime) -> Result<(), Fail> {
         let heap = rt.alloc();
-        assert_eq!(rt; read(heap, b"records 1 99 0aFF # two bytes"), Some((99, 2)));
-        assert_eq!(rt; read(heap, b"records 0 0 -"), Some((0, 0)));
-        assert_eq!(rt; read(heap, b"records 2 99 -"), None);
+        assert_eq!(rt; read(heap, b" 1 99 0aFF"), Some((99, 2)));
+        assert_eq!(rt; read(heap, b" 0 0 -"), Some((0, 0)));
+        assert_eq!(rt; read(heap, b" 2 99 -"), None);
         Ok(())
     }
 }
