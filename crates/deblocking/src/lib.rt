@@ -2,12 +2,12 @@
 // coordinate and is crossed over the other: a horizontal one runs across, a vertical one down.
 #![tactic(auto)]
 
-ghost use Rattle.std.specs.Prelude.{◌≡◌, ◌+◌, ◌*◌, ◌≤◌, ◌&&◌, Some, ◌==◌};
+ghost use Rattle.std.specs.Prelude.{◌≡◌, ◌+◌, ◌*◌, ◌≤◌, ◌&&◌, false, Some, ◌==◌};
 ghost use Rattle.pictures.specs.Pictures.{painted, side, written};
 ghost use Rattle.deblocking.specs.Edges.{Local, across_of, border, down_of, edge_mark, edges, edges_in, filtered, filtered_over, is_vertical, mark_of, quantizer_at, smoothed, turn, turn_segment};
 
 use pictures::{Segment, Store, side_of};
-use samples::{Four, deblock};
+use samples::{Four, FourRows, deblock, deblock_rows, is_kept};
 
 // Which way an edge runs.
 #[derive(Clone, Copy)]
@@ -106,7 +106,7 @@ impl Edge {
         after.or(before)
     }
 
-    // Filters the edge at one place along it.
+    // Filters the edge at one place along it. (Where all four samples stay, as they often do, none is written.)
     fn smooth_place<S: Store>(self, store: &mut S, along: usize, quantizer: u8)
         ensures { let t = is_vertical self.direction in turn t (S.picture store.new) ≡ painted (edges self.plane along (along + 1) self.number (self.number + 1)) (smoothed (λ _ _ _. Some quantizer) (turn t (S.picture store.old)).sample) (turn t (S.picture store.old)) }
     {
@@ -117,6 +117,9 @@ impl Edge {
             c: self.sample_at(store, along, first + 2),
             d: self.sample_at(store, along, first + 3),
         };
+        if is_kept(quantizer, four) {
+            return;
+        }
         let new = deblock(quantizer, four);
         self.write_at(store, along, first, new.a);
         self.write_at(store, along, first + 1, new.b);
@@ -124,13 +127,58 @@ impl Edge {
         self.write_at(store, along, first + 3, new.d);
     }
 
-    // Filters the edge between two macroblocks of this number along it.
-    fn smooth_pair<S: Store>(self, store: &mut S, along: u16, quantizer: u8)
+    // Filters a horizontal edge at eight places along it, which lie side by side in four rows.
+    fn smooth_eight<S: Store>(self, store: &mut S, along: usize, quantizer: u8)
+        requires small { along ≤ 65535 }
+        requires level { is_vertical self.direction ≡ false }
+        ensures { S.picture store.new ≡ painted (edges self.plane along (along + 8) self.number (self.number + 1)) (smoothed (λ _ _ _. Some quantizer) (S.picture store.old).sample) (S.picture store.old) }
+    {
+        let first = self.number * 8 - 2;
+        let rows = FourRows {
+            a: store.read_eight(self.plane, along, first),
+            b: store.read_eight(self.plane, along, first + 1),
+            c: store.read_eight(self.plane, along, first + 2),
+            d: store.read_eight(self.plane, along, first + 3),
+        };
+        let new = deblock_rows(quantizer, &rows);
+        store.write_eight(self.plane, along, first, &new.a);
+        store.write_eight(self.plane, along, first + 1, &new.b);
+        store.write_eight(self.plane, along, first + 2, &new.c);
+        store.write_eight(self.plane, along, first + 3, &new.d);
+    }
+
+    // Filters a horizontal edge from here along, so many times eight places.
+    fn smooth_eights<S: Store>(self, store: &mut S, from: usize, count: usize, quantizer: u8)
+        requires small { from + 8 * count ≤ 65535 }
+        requires level { is_vertical self.direction ≡ false }
+        ensures { S.picture store.new ≡ painted (edges self.plane from (from + 8 * count) self.number (self.number + 1)) (smoothed (λ _ _ _. Some quantizer) (S.picture store.old).sample) (S.picture store.old) }
+    {
+        for eight in 0..count {
+            self.smooth_eight(store, from + 8 * eight, quantizer);
+        }
+    }
+
+    // Filters the edge between two macroblocks of this number along it, place by place.
+    fn smooth_places<S: Store>(self, store: &mut S, along: u16, quantizer: u8)
         ensures { let t = is_vertical self.direction in turn t (S.picture store.new) ≡ painted (edges self.plane (along * side self.plane) ((along + 1) * side self.plane) self.number (self.number + 1)) (smoothed (λ _ _ _. Some quantizer) (turn t (S.picture store.old)).sample) (turn t (S.picture store.old)) }
     {
         let width = side_of(self.plane);
         for place in along as usize * width..(along as usize + 1) * width {
             self.smooth_place(store, place, quantizer);
+        }
+    }
+
+    // Filters the edge between two macroblocks of this number along it. (No picture is so wide that the bound is passed, but an edge does not know it.)
+    fn smooth_pair<S: Store>(self, store: &mut S, along: u16, quantizer: u8)
+        ensures { let t = is_vertical self.direction in turn t (S.picture store.new) ≡ painted (edges self.plane (along * side self.plane) ((along + 1) * side self.plane) self.number (self.number + 1)) (smoothed (λ _ _ _. Some quantizer) (turn t (S.picture store.old)).sample) (turn t (S.picture store.old)) }
+    {
+        let width = side_of(self.plane);
+        let from = along as usize * width;
+        match self.direction {
+            Direction::Horizontal if from + width <= 65535 => {
+                self.smooth_eights(store, from, width / 8, quantizer);
+            }
+            _ => self.smooth_places(store, along, quantizer),
         }
     }
 

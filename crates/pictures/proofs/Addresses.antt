@@ -16,6 +16,10 @@ pub within : (columns rows p x y : ℕ) → inside columns rows p x y ≡ true �
 unfolding inside
 within columns rows p x y e = record { plane = grind (arith, nat_tests); across = grind (arith, nat_tests); down = grind (arith, nat_tests) }
 
+pub is_within : (columns rows p x y : ℕ) → Within columns rows p x y → inside columns rows p x y ≡ true
+unfolding inside
+is_within columns rows p x y w = simp (lt-ltb _ _ w.plane, lt-ltb _ _ w.across, lt-ltb _ _ w.down)
+
 -- a row and a column of a table of w columns are known from their place
 pub same_digits : (a b c d w : ℕ) → b < w → d < w → a * w + b ≡ c * w + d → (a ≡ c) × (b ≡ d)
 same_digits a b c d w l m e =
@@ -35,7 +39,7 @@ is_span : (p y left right q u v : ℕ) → p ≡ q → y ≡ v → left ≤ u �
 unfolding span
 is_span p y left right q u v a b c d = grind (arith, nat_tests)
 
-of_span : (p y left right q u v : ℕ) → span p y left right q u v ≡ true → (p ≡ q) × (y ≡ v) × (left ≤ u) × (u < right)
+pub of_span : (p y left right q u v : ℕ) → span p y left right q u v ≡ true → (p ≡ q) × (y ≡ v) × (left ≤ u) × (u < right)
 unfolding span
 of_span p y left right q u v e = (grind (arith, nat_tests), grind (arith, nat_tests), grind (arith, nat_tests), grind (arith, nat_tests))
 

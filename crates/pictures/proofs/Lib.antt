@@ -1,3 +1,5 @@
 pub mod Rows
 pub mod Painting
 pub mod Addresses
+pub mod Eights
+pub mod Squares

@@ -1,6 +1,6 @@
 -- Pictures: so many columns and rows of macroblocks, in three planes of samples. Plane 0 is luma, with 16 by 16 samples to a macroblock;
 -- planes 1 and 2 are chroma, with 8 by 8.
-use Rattle.std.specs.Prelude.{ℕ, ◌*◌, Bool, cond, ◌&&◌, Some, None, Option, ◌==◌, nat_le, nat_lt}
+use Rattle.std.specs.Prelude.{◌≡◌, ℕ, ◌+◌, ◌-◌, ◌*◌, ◌/◌, ◌%◌, ◌<◌, Bool, List, slice_index, cond, ◌&&◌, Some, None, Option, ◌==◌, nat_le, nat_lt}
 use Rattle.pictures.specs.declared.layouts.Segment.{Segment}
 
 -- the samples across, and down, that a macroblock has in plane p
@@ -49,6 +49,26 @@ covers s q u v = nat_le (s.left * side q) u && (nat_lt u (s.right * side q) && (
 -- the picture after a writing: that place, if inside, has the value, and every other place what it had
 abbrev pub written : Picture → ℕ → ℕ → ℕ → ℕ → Picture
 written f p x y value = painted (here p x y) (λ _ _ _. value) f
+
+-- eight samples of a row of plane p, from x on
+abbrev pub Eight : Picture → ℕ → ℕ → ℕ → List ℕ → Type 0
+Eight f p x y eight = (i : ℕ) → i < 8 → slice_index eight i ≡ f.sample p (x + i) y
+
+-- the picture after a writing of eight samples of a row, from x on: of these places those inside have the values
+abbrev pub painted_eight : Picture → ℕ → ℕ → ℕ → List ℕ → Picture
+painted_eight f p x y values = painted (span p y x (x + 8)) (λ _ u _. slice_index values (u - x)) f
+
+-- the places of the square of 8 by 8 in plane p from x and y on
+unfoldable pub square_at : ℕ → ℕ → ℕ → ℕ → ℕ → ℕ → Bool
+square_at p x y q u v = p == q && (nat_le x u && (nat_lt u (x + 8) && (nat_le y v && nat_lt v (y + 8))))
+
+-- the samples of that square, by rows
+abbrev pub Square : Picture → ℕ → ℕ → ℕ → List ℕ → Type 0
+Square f p x y values = (k : ℕ) → k < 64 → slice_index values k ≡ f.sample p (x + k % 8) (y + k / 8)
+
+-- the picture after a writing of that square, by rows: of its places those inside have the values
+abbrev pub painted_square : Picture → ℕ → ℕ → ℕ → List ℕ → Picture
+painted_square f p x y values = painted (square_at p x y) (λ _ u v. slice_index values (8 * (v - y) + (u - x))) f
 
 -- the samples that cells of memory hold, where each place has an address; 0 outside
 abbrev pub seen : ℕ → ℕ → (ℕ → ℕ → ℕ → ℕ) → (ℕ → ℕ) → Picture

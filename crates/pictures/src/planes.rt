@@ -1,5 +1,5 @@
-ghost use Rattle.std.specs.Prelude.{◌≡◌, ℕ, ◌<◌, ◌≤◌, false};
-ghost use Rattle.pictures.specs.Pictures.{Picture, has, inside, painted, reading, side, span, start, written};
+ghost use Rattle.std.specs.Prelude.{◌≡◌, ℕ, ◌<◌, ◌≤◌, if◌then◌else◌, false, IfSome};
+ghost use Rattle.pictures.specs.Pictures.{Eight, Picture, Square, has, inside, painted, painted_eight, painted_square, reading, side, span, start, written};
 
 // A store of a picture's samples, by its meaning: a size in macroblocks, which is fixed, and three planes. Code above relies on these
 // contracts and on no layout of memory.
@@ -31,6 +31,107 @@ pub trait Store {
         ensures { result ≡ (picture self.now).sample plane across down }
     {
         self.read(plane, across, down).unwrap_or(0)
+    }
+
+    // The square of 8 by 8 samples from a place on, by rows, where the store has them at hand together, and else absence. A store that keeps neighbours
+    // together may read them together.
+    fn read_together(&self, plane: u8, across: usize, down: usize) -> Option<[u8; 64]>
+        requires columns { across ≤ 65535 }
+        requires rows { down ≤ 65535 }
+        ensures { IfSome result (λ values. Square (picture self.now) plane across down values) }
+    {
+        None // no square at hand
+    }
+
+    // Sets the square of 8 by 8 samples from a place on, where the store has them at hand together, and else none. Answers whether it did.
+    fn write_together(&mut self, plane: u8, across: usize, down: usize, values: &[u8; 64]) -> bool
+        requires columns { across ≤ 65535 }
+        requires rows { down ≤ 65535 }
+        ensures { picture self.new ≡ (if result then painted_square (picture self.old) plane across down values.now else picture self.old) }
+    {
+        false // no square at hand
+    }
+
+    // The square of 8 by 8 samples from a place on, by rows, with 0 for those outside.
+    fn read_square(&self, plane: u8, across: usize, down: usize) -> [u8; 64]
+        requires columns { across ≤ 65535 }
+        requires rows { down ≤ 65535 }
+        ensures { Square (picture self.now) plane across down result }
+    {
+        if let Some(values) = self.read_together(plane, across, down) {
+            return values;
+        }
+        let mut values = [0; 64];
+        for row in 0..8 {
+            for column in 0..8 {
+                values[8 * row + column] = self.sample(plane, across + column, down + row);
+            }
+        }
+        values
+    }
+
+    // Sets the square of 8 by 8 samples from a place on, by rows, those inside, and no others.
+    fn write_square(&mut self, plane: u8, across: usize, down: usize, values: &[u8; 64])
+        requires columns { across ≤ 65535 }
+        requires rows { down ≤ 65535 }
+        ensures { picture self.new ≡ painted_square (picture self.old) plane across down values.now }
+    {
+        if self.write_together(plane, across, down, values) {
+            return;
+        }
+        for (k, value) in values.iter().enumerate() {
+            self.write(plane, across + k % 8, down + k / 8, *value);
+        }
+    }
+
+    // Eight samples of a row from a place on, where the store has them side by side, and else absence: as `read_together`, for one row.
+    fn read_row_together(&self, plane: u8, across: usize, down: usize) -> Option<[u8; 8]>
+        requires { across ≤ 65535 }
+        ensures { IfSome result (λ eight. Eight (picture self.now) plane across down eight) }
+    {
+        None // no row at hand
+    }
+
+    // Sets eight samples of a row from a place on, where the store has them side by side, and else none. Answers whether it did.
+    fn write_row_together(
+        &mut self,
+        plane: u8,
+        across: usize,
+        down: usize,
+        values: &[u8; 8],
+    ) -> bool
+        requires { across ≤ 65535 }
+        ensures { picture self.new ≡ (if result then painted_eight (picture self.old) plane across down values.now else picture self.old) }
+    {
+        false // no row at hand
+    }
+
+    // Eight samples of a row from a place on, with 0 for those outside.
+    fn read_eight(&self, plane: u8, across: usize, down: usize) -> [u8; 8]
+        requires { across ≤ 65535 }
+        ensures { Eight (picture self.now) plane across down result }
+    {
+        if let Some(eight) = self.read_row_together(plane, across, down) {
+            return eight;
+        }
+        let mut eight = [0; 8];
+        for (i, sample) in eight.iter_mut().enumerate() {
+            *sample = self.sample(plane, across + i, down);
+        }
+        eight
+    }
+
+    // Sets eight samples of a row from a place on, those inside, and no others.
+    fn write_eight(&mut self, plane: u8, across: usize, down: usize, values: &[u8; 8])
+        requires { across ≤ 65535 }
+        ensures { picture self.new ≡ painted_eight (picture self.old) plane across down values.now }
+    {
+        if self.write_row_together(plane, across, down, values) {
+            return;
+        }
+        for (i, value) in values.iter().enumerate() {
+            self.write(plane, across + i, down, *value);
+        }
     }
 
     // Sets one or more of a row's samples from across on, those inside, and answers the place after them. A store that keeps neighbours

@@ -1,0 +1,3 @@
+pub mod Seeing
+pub mod Batches
+pub mod Onward

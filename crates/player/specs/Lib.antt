@@ -1,1 +1,3 @@
 pub mod Gatherings
+pub mod Plays
+pub mod Seen

@@ -1,7 +1,16 @@
 // Plays the lines of a script one after the other.
-ghost use Rattle.std.specs.Prelude.{◌≡◌, IfOk};
-ghost use Rattle.call_lines.specs.Lines.{meant, told};
+ghost use Rattle.std.specs.Prelude.{◌≡◌, ◌<◌, ◌^◌, length, map, IfOk, None, string_bytes};
+ghost use Rattle.records.specs.Again.{records_of};
+ghost use Rattle.pictures.specs.Formats.{numbered};
+ghost use Rattle.script.specs.Fields.{lines_of};
+ghost use Rattle.script.specs.Lines.{meant as records_meant};
+ghost use Rattle.call_lines.specs.Lines.{line_of, meant, told};
+ghost use Rattle.transcripts.specs.Told.{Tells};
+ghost use Rattle.seats.specs.Tellings.{ClosesLast};
+ghost use Rattle.seats.specs.Turns.{call_in, calls_in};
 ghost use Rattle.player.specs.Gatherings.{gathering_by, gathering_of};
+ghost use Rattle.player.specs.Plays.{ages_on, answers_to, begun, calls_made, leaving, line_played, tell_macroblocks, tell_records, told_of};
+ghost use Rattle.player.specs.Seen.{Plays, playing_in};
 
 use call_lines::line::{Line, Said, StoreKind, TransformKind, read_line};
 use calls::answers::Answer;
@@ -10,18 +19,23 @@ use records::checked::Delivery;
 use reel::reels::Reel;
 use script::fields::lines_of;
 use script::line::Records;
-use script::show::Record;
 use seats::calling::miss_calls;
 use seats::seat::{Choices, Seat};
 use std::alloc::{AllocError, Global};
 use transcripts::answers::{Misread, Word};
+use transcripts::macroblocks::Numbered;
 use transcripts::transcript::Transcript;
 
 // The lines of a script. All are read before the first call is made, so that nothing that may fail stands between an opening and its closing.
-fn read_lines(heap: Global, script: &[u8]) -> Result<Vec<Said>, AllocError> {
-    lines_of(script)
-        .map(|line| -> Result<Said, AllocError> { read_line(heap, line) })
-        .try_collect(heap)
+fn read_lines(heap: Global, script: &[u8]) -> Result<Vec<Said>, AllocError>
+    ensures { IfOk result (λ lines. map told lines.items ≡ map line_of (lines_of script.now)) }
+{
+    // a loop, and no `try_collect`: its invariant, the lines read before those left, is the whole proof
+    let mut lines = Vec::new(heap);
+    for line in lines_of(script) {
+        lines.push(read_line(heap, line)?)?;
+    }
+    Ok(lines)
 }
 
 // Makes the calls that some lines gathered. (The seat goes by value from step to step, and not in a struct that is lent: a seat cannot be let go, so none
@@ -31,16 +45,23 @@ fn make_calls(
     heap: Global,
     lines: &[Said],
     transcript: &mut Transcript,
-) -> Option<Seat> {
-    let Some(seat) = seat else {
-        miss_calls(lines, transcript);
-        return None;
-    };
-    Some(seat.make_calls(heap, lines, transcript))
+) -> Option<Seat>
+    requires { ClosesLast (calls_in lines.now) }
+    ensures { (choices : Choices) → Plays (calls_made (calls_in lines.now)) seat choices transcript.old result choices transcript.new }
+{
+    match seat {
+        Some(seat) => Some(seat.make_calls(heap, lines, transcript)),
+        None => {
+            miss_calls(lines, transcript);
+            None
+        }
+    }
 }
 
 // Leaves the seat of the reel there was, if there was one.
-fn leave(seat: Option<Seat>, transcript: &mut Transcript) {
+fn leave(seat: Option<Seat>, transcript: &mut Transcript)
+    ensures { Tells (leaving (playing_in seat)) transcript.old transcript.new }
+{
     if let Some(seat) = seat {
         seat.leave(transcript);
     }
@@ -53,7 +74,9 @@ fn begin(
     format: u32,
     choices: Choices,
     transcript: &mut Transcript,
-) -> Option<Seat> {
+) -> Option<Seat>
+    ensures { Plays (begun (numbered format)) seat choices transcript.old result choices transcript.new }
+{
     match Reel::new(format) {
         Ok(reel) => {
             leave(seat, transcript);
@@ -75,24 +98,39 @@ fn begin(
     }
 }
 
-fn tell_ages(seat: &Option<Seat>, transcript: &mut Transcript) {
+fn tell_ages(seat: &Option<Seat>, transcript: &mut Transcript)
+    ensures { Tells (ages_on (playing_in seat.now)) transcript.old transcript.new }
+{
     match seat {
         Some(seat) => seat.tell_ages(transcript),
         None => transcript.answer(Word::Ages, Answer::OutOfTurn),
     }
 }
 
-// Tells the macroblocks of a delivery, or its refusal.
-fn tell_records(records: &Records, transcript: &mut Transcript) {
+// Tells the macroblocks of a delivery.
+fn tell_macroblocks(delivery: Delivery, transcript: &mut Transcript)
+    requires { length (records_of delivery) < 2 ^ 32 }
+    ensures { Tells (tell_macroblocks 0 (records_of delivery.entry)) transcript.old transcript.new }
+{
+    // a count of its own, and no `enumerate`: the invariant then speaks of the delivery itself
+    let mut index = 0;
+    for macroblock in delivery {
+        transcript.add(Numbered {
+            index,
+            macroblock: &macroblock,
+        });
+        index += 1;
+    }
+}
+
+// Tells the macroblocks of a delivery and its counts, or its refusal.
+fn tell_records(records: &Records, transcript: &mut Transcript)
+    ensures { Tells (tell_records (records_meant records.now)) transcript.old transcript.new }
+{
     let macroblocks = records.macroblocks as usize;
     match Delivery::checked(records.kind, macroblocks, records.bytes.as_slice()) {
         Ok((delivered, delivery)) => {
-            for (index, macroblock) in delivery.enumerate() {
-                transcript.add(Record {
-                    index,
-                    macroblock: &macroblock,
-                });
-            }
+            tell_macroblocks(delivery, transcript);
             transcript.answer(Word::Records, Answer::Delivered(delivered));
         }
         Err(fault) => {
@@ -110,7 +148,10 @@ fn play_line(
     line: &Said,
     choices: &mut Choices,
     transcript: &mut Transcript,
-) -> Option<Seat> {
+) -> Option<Seat>
+    requires { call_in (told line.now) ≡ None }
+    ensures { Plays (line_played number (told line.now)) seat choices.old transcript.old result choices.new transcript.new }
+{
     match line {
         Ok(Some(Line::Store(kind))) => choices.store = *kind,
         Ok(Some(Line::Transform(kind))) => choices.transform = *kind,
@@ -158,7 +199,9 @@ fn gathering_by(line: &Line) -> Gathering
 }
 
 // Plays lines: the calls on a reel are made list by list, each up to a closing or to a line that makes no such call.
-fn play_lines(heap: Global, lines: &[Said], store: StoreKind, transcript: &mut Transcript) {
+fn play_lines(heap: Global, lines: &[Said], store: StoreKind, transcript: &mut Transcript)
+    ensures { Tells (told_of store (map told lines.now)) transcript.old transcript.new }
+{
     let mut choices = Choices {
         store,
         transform: TransformKind::TwoPass,
@@ -184,7 +227,9 @@ fn play_lines(heap: Global, lines: &[Said], store: StoreKind, transcript: &mut T
 }
 
 // The text of the answers to a script, where reels are stored as said until the script says otherwise.
-pub fn play(heap: Global, script: &[u8], store: StoreKind) -> Result<String, AllocError> {
+pub fn play(heap: Global, script: &[u8], store: StoreKind) -> Result<String, AllocError>
+    ensures { IfOk result (λ text. string_bytes text ≡ answers_to store script.now) }
+{
     let lines = read_lines(heap, script)?;
     let mut transcript = Transcript::new(heap);
     play_lines(heap, lines.as_slice(), store, &mut transcript);

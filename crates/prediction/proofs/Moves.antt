@@ -1,5 +1,5 @@
 -- Coordinates that are kept above their value.
-use Rattle.std.proofs.Common.{◌≡◌, ℕ, ◌+◌, ◌-◌, ◌/◌, ◌%◌, ◌<◌, min, max, eqb, ℤ, pos, negsuc, ◌+ℤ◌, ◌-ℤ◌, ap, arith}
+use Rattle.std.proofs.Common.{◌≡◌, ℕ, ◌+◌, ◌-◌, ◌/◌, ◌%◌, ◌<◌, ◌≤◌, min, max, true, ◌&&◌, eqb, leb, ℤ, pos, negsuc, ◌+ℤ◌, ◌-ℤ◌, sym, ap, arith}
 use Rattle.std.proofs.lemmas.Int.{ints}
 use Rattle.std.proofs.lemmas.Bool.Decides.{nat_tests}
 use Rattle.transform.specs.Sums.{floor}
@@ -25,3 +25,19 @@ held_at (negsuc a) low high x h e = let k : x < 64 = omega (arith, ints) in grin
 
 pub held_is : (low high x : ℕ) → low < high → max (min x (high + 63)) (low + 64) - 64 ≡ held low high (pos x -ℤ pos 64)
 held_is low high x h = held_at (pos x -ℤ pos 64) low high x h (omega (arith, ints))
+
+-- of eight coordinates that all lie inside none is brought anywhere
+held_there : (z : ℤ) (low high n : ℕ) → z ≡ pos n → low ≤ n → n < high → held low high z ≡ n
+unfolding held
+held_there (pos a) low high n e h k = let same : a ≡ n = omega (arith, ints) in rw same (grind arith)
+held_there (negsuc a) low high n e h k = absurd (omega (arith, ints))
+
+pub held_run : (low high x i : ℕ) → (leb (low + 64) x && leb (x + 8) (high + 64)) ≡ true → i < 8 → x - 64 + i ≡ held low high (pos (x + i) -ℤ pos 64)
+held_run low high x i e l =
+    let h : low + 64 ≤ x = grind (arith, nat_tests) in
+    let k : x + 8 ≤ high + 64 = grind (arith, nat_tests) in
+    sym (held_there (pos (x + i) -ℤ pos 64) low high (x - 64 + i) (omega (arith, ints)) (omega arith) (omega arith))
+
+-- a place further on is moved further on
+pub further : (z : ℤ) (x u i : ℕ) → pos u ≡ pos x +ℤ z +ℤ pos 64 → pos (u + i) ≡ pos (x + i) +ℤ z +ℤ pos 64
+further z x u i e = omega (arith, ints)

@@ -1,12 +1,12 @@
 // Prediction of one sample. Coordinates are kept 64 above their value, so that they are never below 0 while they are moved.
-ghost use Rattle.std.specs.Prelude.{◌≡◌, ℕ, ◌+◌, ◌*◌, ◌/◌, ◌<◌, ◌≤◌, true, false, ℤ, MatchOption, pos, ◌+ℤ◌, ◌-ℤ◌};
+ghost use Rattle.std.specs.Prelude.{◌≡◌, ℕ, ◌+◌, ◌*◌, ◌/◌, ◌%◌, ◌<◌, ◌≤◌, ◌&&◌, true, false, ℤ, MatchOption, pos, ◌+ℤ◌, ◌-ℤ◌, nat_le, slice_index};
 ghost use Rattle.pictures.specs.Pictures.{side};
 ghost use Rattle.samples.specs.Prediction.{rounding_of};
 ghost use Rattle.transform.specs.Sums.{floor};
 ghost use Rattle.prediction.specs.Window.{held, is_half, is_segment, prediction_at, window};
 
 use pictures::{Segment, Store, side_of};
-use samples::{Rounding, between_four, between_two};
+use samples::{Rounding, between_four, between_two, squares_between_four, squares_between_two};
 
 // A component's half samples, 128 above their value.
 fn half_steps(component: i8) -> usize
@@ -50,6 +50,15 @@ fn hold_inside(plane: u8, low: u16, high: u16, coordinate: usize) -> usize
 {
     let side = side_of(plane);
     hold(low as usize * side, high as usize * side, coordinate)
+}
+
+// Whether eight coordinates of a plane from one on, which is 64 above its value, lie inside the macroblocks from low to before high.
+fn lies_inside(plane: u8, low: u16, high: u16, coordinate: usize) -> bool
+    requires { coordinate ≤ 65801 }
+    ensures { result ≡ (nat_le (low * side plane + 64) coordinate && nat_le (coordinate + 8) (high * side plane + 64)) }
+{
+    let side = side_of(plane);
+    low as usize * side + 64 <= coordinate && coordinate + 8 <= high as usize * side + 64
 }
 
 // Whether a rectangle of macroblocks has one at least, and no more across and down than the largest picture.
@@ -110,6 +119,39 @@ impl<S: Store> Window<'_, S> {
         )
     }
 
+    // The square of 8 by 8 samples as the segment sees them, from coordinates that are 64 above their value on, by rows: at once where it lies inside the segment.
+    fn square(&self, plane: u8, across: usize, down: usize) -> [u8; 64]
+        requires across { across ≤ 65801 }
+        requires down { down ≤ 65801 }
+        ensures { (k : ℕ) → k < 64 → slice_index result k ≡ window self.now.segment (S.picture self.now.finished.now).sample plane (pos (across + k % 8) -ℤ pos 64) (pos (down + k / 8) -ℤ pos 64) }
+    {
+        let Segment {
+            left,
+            right,
+            top,
+            bottom,
+        } = self.segment;
+        if lies_inside(plane, left, right, across) && lies_inside(plane, top, bottom, down) {
+            return self.finished.read_square(plane, across - 64, down - 64);
+        }
+        self.held_square(plane, across, down)
+    }
+
+    // The same, sample by sample.
+    fn held_square(&self, plane: u8, across: usize, down: usize) -> [u8; 64]
+        requires across { across ≤ 65801 }
+        requires down { down ≤ 65801 }
+        ensures { (k : ℕ) → k < 64 → slice_index result k ≡ window self.now.segment (S.picture self.now.finished.now).sample plane (pos (across + k % 8) -ℤ pos 64) (pos (down + k / 8) -ℤ pos 64) }
+    {
+        let mut square = [0; 64];
+        for row in 0..8 {
+            for column in 0..8 {
+                square[8 * row + column] = self.sample(plane, across + column, down + row);
+            }
+        }
+        square
+    }
+
     // The prediction at a place of a plane, for a vector of so many half samples across and down. (Not by the rule for four given neighbours: only
     // those that count are read.)
     pub fn predict(&self, plane: u8, x: usize, y: usize, across: i8, down: i8) -> u8
@@ -130,6 +172,37 @@ impl<S: Store> Window<'_, S> {
                 self.sample(plane, u + 1, v),
                 self.sample(plane, u, v + 1),
                 self.sample(plane, u + 1, v + 1),
+            ),
+        }
+    }
+
+    // The predictions at the places of a square of 8 by 8, by rows.
+    pub fn predict_square(&self, plane: u8, x: usize, y: usize, across: i8, down: i8) -> [u8; 64]
+        requires across { x ≤ 65535 }
+        requires down { y ≤ 65535 }
+        ensures { (k : ℕ) → k < 64 → slice_index result k ≡ prediction_at self.now.segment (rounding_of self.now.rounding) (S.picture self.now.finished.now).sample plane (x + k % 8) (y + k / 8) across down }
+    {
+        let u = moved(x, across);
+        let v = moved(y, down);
+        let here = self.square(plane, u, v);
+        match (is_half(across), is_half(down)) {
+            (false, false) => here,
+            (true, false) => squares_between_two(
+                self.rounding,
+                &here,
+                &self.square(plane, u + 1, v),
+            ),
+            (false, true) => squares_between_two(
+                self.rounding,
+                &here,
+                &self.square(plane, u, v + 1),
+            ),
+            (true, true) => squares_between_four(
+                self.rounding,
+                &here,
+                &self.square(plane, u + 1, v),
+                &self.square(plane, u, v + 1),
+                &self.square(plane, u + 1, v + 1),
             ),
         }
     }

@@ -1,5 +1,5 @@
 -- The places of a macroblock, block by block.
-use Rattle.std.proofs.Common.{◌≡◌, ℕ, zero, suc, ◌+◌, ◌*◌, ◌%◌, ◌<◌, ◌≤◌, Bool, true, false, ◌&&◌, ◌||◌, eqb, ltb, List, Option, get_or, replicate, ℤ, pos, refl, arith}
+use Rattle.std.proofs.Common.{◌≡◌, ℕ, zero, suc, ◌+◌, ◌*◌, ◌%◌, ◌<◌, ◌≤◌, Bool, true, false, ◌&&◌, ◌||◌, eqb, ltb, List, Option, get_or, ℤ, pos, refl, arith}
 use Rattle.records.specs.declared.types.Macroblock.{Macroblock}
 use Rattle.records.specs.declared.types.Macroblock.TheVariants.{Skipped, Inter, Intra}
 use Rattle.motion.specs.declared.vectors.Vector.{Vector}
@@ -89,11 +89,6 @@ pub block_samples : (meaning : List ℤ → ℕ → ℕ → ℤ) (s : Segment) (
     → summed s rounding picture source residual q u v ≡ coded_sample meaning s rounding picture m vector q u v
 unfolding summed coded_sample
 block_samples meaning s rounding picture m vector source residual p b q u v e f g h = rw (g, ← h, e, f) refl
-
-pub zeros_at : (n p : ℕ) → get_or (replicate n (pos 0)) p (pos 0) ≡ pos 0
-zeros_at zero p = refl
-zeros_at (suc n) zero = refl
-zeros_at (suc n) (suc p) = zeros_at n p
 
 -- a macroblock is a rectangle of one
 pub one_covered : (column row q u v : ℕ) (f : Picture) → has f q u v ≡ true → covers (record { left = column; right = column + 1; top = row; bottom = row + 1 }) q u v ≡ macroblock_at column row q u v

@@ -1,30 +1,69 @@
--- The places of a block, one after the other by rows.
-use Rattle.std.proofs.Common.{◌≡◌, ℕ, ◌+◌, ◌-◌, ◌*◌, ◌/◌, ◌%◌, ◌<◌, ◌≤◌, Bool, false, ◌&&◌, ◌||◌, ltb, List, get_or, ℤ, pos, ◌+ℤ◌, arith}
+-- A block is a square of a plane, by rows.
+use Rattle.std.proofs.Common.{◌≡◌, ℕ, ◌+◌, ◌-◌, ◌*◌, ◌/◌, ◌%◌, ◌<◌, ◌≤◌, zero, suc, true, List, None, Option, get_or, replicate, ℤ, pos, ◌+ℤ◌, refl, ap, ◌∙◌, arith}
 use Rattle.std.proofs.lemmas.Bool.Decides.{nat_tests}
-use Rattle.pictures.specs.Pictures.{here}
+use Rattle.motion.specs.declared.vectors.Vector.{Vector}
+use Rattle.pictures.specs.declared.layouts.Segment.{Segment}
+use Rattle.pictures.specs.Pictures.{square_at}
 use Rattle.samples.specs.Clipping.{clipped}
-use Rattle.rebuild.specs.Blocks.{block_at}
+use Rattle.rebuild.specs.Blocks.{block_at, predicted_from, summed}
 
--- the places of a block before its place n
-unfoldable pub block_up_to : ℕ → ℕ → ℕ → ℕ → ℕ → ℕ → ℕ → Bool
-block_up_to p left top n q u v = block_at p left top q u v && ltb (8 * (v - top) + (u - left)) n
+pub is_block : (p left top q u v : ℕ) → square_at p left top q u v ≡ block_at p left top q u v
+unfolding square_at block_at
+is_block p left top q u v = refl
 
-pub block_none : (p left top q u v : ℕ) → block_up_to p left top 0 q u v ≡ false
-unfolding block_up_to block_at
-block_none p left top q u v = grind (arith, nat_tests)
+zeros : (n k : ℕ) → ◌≡◌ {A = ℕ} (get_or (replicate n 0) k 0) 0
+zeros zero k = refl
+zeros (suc n) zero = refl
+zeros (suc n) (suc k) = zeros n k
 
-pub block_more : (p left top n q u v : ℕ) → n < 64 → block_up_to p left top (n + 1) q u v ≡ (here p (left + n % 8) (top + n / 8) q u v || block_up_to p left top n q u v)
-unfolding block_up_to block_at here
-block_more p left top n q u v h = grind (arith, nat_tests)
+-- where nothing is predicted
+pub nothing : (s : Segment) (rounding : ℕ) (picture : ℕ → ℕ → ℕ → ℕ) (source : Option Vector) (p x y k : ℕ) → source ≡ None
+    → get_or (replicate 64 0) k 0 ≡ predicted_from s rounding picture source p x y
+nothing s rounding picture source p x y k e = rw e (zeros 64 k)
 
-pub block_all : (p left top n q u v : ℕ) → 64 ≤ n → block_up_to p left top n q u v ≡ block_at p left top q u v
-unfolding block_up_to block_at
-block_all p left top n q u v h = grind (arith, nat_tests)
+-- what a place of a block says of its numbers
+record At (p left top q u v : ℕ) : Type 0 where
+  plane : p ≡ q
+  right : left ≤ u
+  narrow : u < left + 8
+  below : top ≤ v
+  low : v < top + 8
 
--- the residual of a place
-pub place_of : (left top n : ℕ) → n < 64 → left % 8 ≡ 0 → top % 8 ≡ 0 → 8 * ((top + n / 8) % 8) + (left + n % 8) % 8 ≡ n
-place_of left top n h a b = omega arith
+of_block : (p left top q u v : ℕ) → block_at p left top q u v ≡ true → At p left top q u v
+unfolding block_at
+of_block p left top q u v e =
+    record {
+      plane = grind (arith, nat_tests);
+      right = grind (arith, nat_tests);
+      narrow = grind (arith, nat_tests);
+      below = grind (arith, nat_tests);
+      low = grind (arith, nat_tests);
+    }
 
--- a sample of a block, by its place
-pub sample_is : (r a b n m : ℕ) (z : ℤ) (residual : List ℤ) → r ≡ clipped (pos a +ℤ z) → z ≡ get_or residual n (pos 0) → a ≡ b → m ≡ n → r ≡ clipped (pos b +ℤ get_or residual m (pos 0))
-sample_is r a b n m z residual e f g h = rw (h, ← f, ← g) e
+module _ (s : Segment) (rounding : ℕ) (picture : ℕ → ℕ → ℕ → ℕ) (source : Option Vector) (p left top : ℕ) (predictions : List ℕ) (q u v : ℕ) (e : block_at p left top q u v ≡ true)
+    (each : (k : ℕ) → k < 64 → get_or predictions k 0 ≡ predicted_from s rounding picture source p (left + k % 8) (top + k / 8)) where
+  -- the number of a place in its block
+  abbrev number : ℕ
+  number = 8 * (v - top) + (u - left)
+
+  small : number < 64
+  small = let a = of_block p left top q u v e in omega (arith, a.right, a.narrow, a.below, a.low)
+
+  -- the predictions are those of its places
+  block_predicted : get_or predictions number 0 ≡ predicted_from s rounding picture source q u v
+  block_predicted =
+      let a = of_block p left top q u v e in
+      let x : left + number % 8 ≡ u = omega (arith, a.right, a.narrow, a.below, a.low) in
+      let y : top + number / 8 ≡ v = omega (arith, a.right, a.narrow, a.below, a.low) in
+      each number small ∙ ap (λ m. predicted_from s rounding picture source m (left + number % 8) (top + number / 8)) a.plane
+      ∙ ap (λ m. predicted_from s rounding picture source q m (top + number / 8)) x ∙ ap (predicted_from s rounding picture source q u) y
+
+  -- and their sums with the residuals are the samples
+  pub block_summed : (residual : List ℤ) (sums : List ℕ) → left % 8 ≡ 0 → top % 8 ≡ 0
+      → ((k : ℕ) → k < 64 → get_or sums k 0 ≡ clipped (pos (get_or predictions k 0) +ℤ get_or residual k (pos 0)))
+      → get_or sums number 0 ≡ summed s rounding picture source residual q u v
+  unfolding summed
+  block_summed residual sums b c sum =
+      let a = of_block p left top q u v e in
+      let there : 8 * (v % 8) + u % 8 ≡ number = omega (arith, a.right, a.narrow, a.below, a.low) in
+      rw (there, ← block_predicted) (sum number small)

@@ -1,5 +1,5 @@
 -- A block of 8 by 8 samples of a plane: each is the sum of a prediction and a residual, brought into 0 to 255. Assumes nothing.
-use Rattle.std.specs.Prelude.{ℕ, ◌+◌, ◌*◌, ◌%◌, Bool, ◌&&◌, List, ℤ, Some, None, Option, pos, ◌+ℤ◌, ◌==◌, nat_le, nat_lt, slice_index_or}
+use Rattle.std.specs.Prelude.{ℕ, ◌+◌, ◌*◌, ◌%◌, Bool, ◌&&◌, List, [], ℤ, Some, None, Option, pos, ◌+ℤ◌, ◌==◌, nat_le, nat_lt, slice_index_or}
 use Rattle.motion.specs.declared.vectors.Vector.{Vector}
 use Rattle.pictures.specs.declared.layouts.Segment.{Segment}
 use Rattle.prediction.specs.Window.{prediction_at}
@@ -9,6 +9,11 @@ use Rattle.samples.specs.Clipping.{clipped}
 abbrev pub predicted_from : Segment → ℕ → (ℕ → ℕ → ℕ → ℕ) → Option Vector → ℕ → ℕ → ℕ → ℕ
 predicted_from s rounding picture None p x y = 0
 predicted_from s rounding picture (Some vector) p x y = prediction_at s rounding picture p x y vector.horizontal vector.vertical
+
+-- the residuals of a block by place; a block without coefficients has none, and each then counts as zero
+abbrev pub values_of : Option (List ℤ) → List ℤ
+values_of (Some residual) = residual
+values_of None = []
 
 -- the places of the block whose first sample is at left and top
 unfoldable pub block_at : ℕ → ℕ → ℕ → ℕ → ℕ → ℕ → Bool

@@ -1,47 +1,40 @@
 // Rebuilding a block.
-ghost use Rattle.std.specs.Prelude.{◌≡◌, ℕ, ◌+◌, ◌*◌, ◌%◌, ◌<◌, ◌≤◌, pos, ◌+ℤ◌};
-ghost use Rattle.pictures.specs.Pictures.{painted, written};
+ghost use Rattle.std.specs.Prelude.{◌≡◌, ℕ, ◌+◌, ◌/◌, ◌%◌, ◌<◌, pos, ◌+ℤ◌, slice_index, slice_index_or};
+ghost use Rattle.pictures.specs.Pictures.{painted};
 ghost use Rattle.samples.specs.Clipping.{clipped};
 ghost use Rattle.samples.specs.Prediction.{rounding_of};
-ghost use Rattle.rebuild.specs.Blocks.{block_at, predicted_from, summed};
+ghost use Rattle.rebuild.specs.Blocks.{block_at, predicted_from, summed, values_of};
 
 use crate::places::BlockPlace;
 use motion::vectors::Vector;
 use pictures::Store;
 use prediction::window::Window;
-use samples::add_residual;
+use samples::add_residuals;
 
-// The prediction at a place, by a vector; without a vector nothing is predicted. (The place is asked to be small as the window asks it, in the machine words
-// that stores take.)
-fn predicted_sample<S: Store>(
+// The predictions at the places of a block, by a vector; without a vector nothing is predicted. (The block's plane, left and top are its place's: they are asked
+// to be small there, in the machine words that stores take.)
+fn predicted_block<S: Store>(
     window: &Window<S>,
     source: Option<Vector>,
-    plane: u8,
-    x: usize,
-    y: usize,
-) -> u8
-    requires across { x ≤ 65535 }
-    requires down { y ≤ 65535 }
-    ensures { let w = window.now in result ≡ predicted_from w.segment (rounding_of w.rounding) (S.picture w.finished.now).sample source plane x y }
+    place: BlockPlace,
+) -> [u8; 64]
+    ensures { let w = window.now in (k : ℕ) → k < 64 → slice_index result k ≡ predicted_from w.segment (rounding_of w.rounding) (S.picture w.finished.now).sample source place.plane (place.left + k % 8) (place.top + k / 8) }
 {
+    let BlockPlace { plane, left, top } = place;
     match source {
-        None => 0,
-        Some(vector) => window.predict(plane, x, y, vector.horizontal, vector.vertical),
+        None => [0; 64],
+        Some(vector) => window.predict_square(plane, left, top, vector.horizontal, vector.vertical),
     }
 }
 
-// Sets one sample to the sum of its prediction and its residual.
-fn set_sample<S: Store>(
-    working: &mut S,
-    plane: u8,
-    x: usize,
-    y: usize,
-    prediction: u8,
-    residual: i16,
-)
-    ensures { S.picture working.new ≡ written (S.picture working.old) plane x y (clipped (pos prediction +ℤ residual)) }
+// The sums of a block's predictions and residuals. Without residuals they are the predictions.
+fn sums_of(predictions: [u8; 64], residual: &Option<[i16; 64]>) -> [u8; 64]
+    ensures { (k : ℕ) → k < 64 → slice_index result k ≡ clipped (pos (slice_index predictions k) +ℤ slice_index_or (values_of residual.now) k (pos 0)) }
 {
-    working.write(plane, x, y, add_residual(prediction, residual));
+    match residual {
+        None => predictions,
+        Some(residual) => add_residuals(&predictions, residual),
+    }
 }
 
 // Sets the samples of the block at a place, and no others.
@@ -50,22 +43,11 @@ pub fn rebuild_block<S: Store>(
     working: &mut S,
     source: Option<Vector>,
     place: BlockPlace,
-    residual: &[i16; 64],
+    residual: &Option<[i16; 64]>,
 )
-    ensures { let w = window.now in S.picture working.new ≡ painted (block_at place.plane place.left place.top) (summed w.segment (rounding_of w.rounding) (S.picture w.finished.now).sample source residual.now) (S.picture working.old) }
+    ensures { let w = window.now in S.picture working.new ≡ painted (block_at place.plane place.left place.top) (summed w.segment (rounding_of w.rounding) (S.picture w.finished.now).sample source (values_of residual.now)) (S.picture working.old) }
 {
+    let sums = sums_of(predicted_block(window, source, place), residual);
     let BlockPlace { plane, left, top } = place;
-    // A copy of its own, so that what the window says is not read again after each sample that is written; field by field, since no derive copies a struct
-    // that holds `&S` and ghost fields.
-    let own = Window {
-        finished: window.finished,
-        segment: window.segment,
-        rounding: window.rounding,
-    };
-    for (n, residual) in residual.iter().enumerate() {
-        let x = left + n % 8;
-        let y = top + n / 8;
-        let prediction = predicted_sample(&own, source, plane, x, y);
-        set_sample(working, plane, x, y, prediction, *residual);
-    }
+    working.write_square(plane, left, top, &sums);
 }

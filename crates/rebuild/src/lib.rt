@@ -1,4 +1,4 @@
-// Rebuilding macroblocks: prediction and residual, brought together sample by sample.
+// Rebuilding macroblocks: prediction and residual, brought together block by block.
 // Relies on what every store and every transform promises.
 #![tactic(auto)]
 

@@ -2,6 +2,7 @@
 ghost use Rattle.std.specs.Prelude.{◌≡◌, ℕ, ◌+◌, ◌*◌, ◌%◌, ◌<◌, ◌≤◌, List, ℤ, pos, slice_index_or};
 ghost use Rattle.pictures.specs.Pictures.{painted};
 ghost use Rattle.samples.specs.Prediction.{rounding_of};
+ghost use Rattle.rebuild.specs.Blocks.{values_of};
 ghost use Rattle.rebuild.specs.Macroblocks.{coded_sample, coefficients_of, component_for, macroblock_at, macroblock_sample, residual_of, source_for};
 
 use crate::block::rebuild_block;
@@ -38,13 +39,6 @@ fn source_for(macroblock: &Macroblock, vector: Vector, plane: u8) -> Option<Vect
     }
 }
 
-// A block without coefficients adds zero.
-fn no_residual() -> [i16; 64]
-    ensures { (p : ℕ) → slice_index_or result p (pos 0) ≡ pos 0 }
-{
-    [0; 64]
-}
-
 // Copies the samples of the macroblock at a place, and no others.
 fn copy_macroblock<S: Store>(finished: &S, working: &mut S, place: MacroblockPlace)
     ensures { S.picture working.new ≡ painted (macroblock_at place.column place.row) (S.picture finished.now).sample (S.picture working.old) }
@@ -69,10 +63,10 @@ fn transformed<T: Transform>(transform: &T, quantizer: u8, block: &Block) -> [i1
     transform.inverse(&coefficients(quantizer, block.dc, &block.levels))
 }
 
-// The residual of a block; the transform is called only where there are coefficients.
-fn residual_of<T: Transform>(transform: &T, macroblock: &Macroblock, block: u8) -> [i16; 64]
+// The residual of a block that has coefficients; the transform is called only for these.
+fn residual_of<T: Transform>(transform: &T, macroblock: &Macroblock, block: u8) -> Option<[i16; 64]>
     requires { block < 6 }
-    ensures { (n k : ℕ) → n < 8 → k < 8 → slice_index_or result (8 * k + n) (pos 0) ≡ residual_of (T.meaning transform.now) macroblock.now block n k }
+    ensures { (n k : ℕ) → n < 8 → k < 8 → slice_index_or (values_of result) (8 * k + n) (pos 0) ≡ residual_of (T.meaning transform.now) macroblock.now block n k }
 {
     match macroblock {
         Macroblock::Inter {
@@ -80,17 +74,15 @@ fn residual_of<T: Transform>(transform: &T, macroblock: &Macroblock, block: u8) 
             pattern,
             blocks,
             ..
-        } if is_coded(*pattern, block) => transformed(
-            transform,
-            *quantizer,
-            &blocks[block as usize],
-        ),
+        } if is_coded(*pattern, block) => {
+            Some(transformed(transform, *quantizer, &blocks[block as usize]))
+        }
         Macroblock::Intra {
             quantizer,
             blocks,
             ..
-        } => transformed(transform, *quantizer, &blocks[block as usize]),
-        _ => no_residual(),
+        } => Some(transformed(transform, *quantizer, &blocks[block as usize])),
+        _ => None,
     }
 }
 

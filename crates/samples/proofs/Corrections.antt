@@ -6,7 +6,7 @@ use Rattle.transform.specs.Signs.{with_sign}
 use Rattle.transform.specs.Sums.{brought}
 use Rattle.transform.proofs.Sizes.{abs_neg}
 use Rattle.samples.specs.Clipping.{clipped}
-use Rattle.samples.specs.Deblocking.{quotient, step_of, inner_of, outer_of, new_a, new_d}
+use Rattle.samples.specs.Deblocking.{deblocked, quotient, step_of, inner_of, outer_of, new_a, new_d}
 use Rattle.samples.specs.declared.deblocking.Four.{Four}
 
 abs_sign : (z : ℤ) (n : ℕ) → nat_abs (with_sign z n) ≡ n
@@ -154,3 +154,32 @@ unfolding new_a new_d
 new_down s f n e h =
     let is = outer_down s f h in let size = outer_size_lem s f in let bound = outer_bound s f in
     (omega (arith, ints), omega (arith, ints))
+
+-- ---- where the inner samples are not corrected, none is
+none_left : (z : ℤ) → nat_abs z ≡ 0 → z ≡ pos 0
+none_left (pos n) e = ap pos e
+none_left (negsuc n) e = absurd (omega arith)
+
+pub kept : (s : ℕ) (f : Four) → f.b < 256 → f.c < 256 → 0 ≡ nat_abs (inner_of s f) → deblocked s f ≡ f
+unfolding new_a new_d
+kept s f hb hc e =
+    let inner : inner_of s f ≡ pos 0 = none_left (inner_of s f) (sym e) in
+    let size = outer_size_lem s f in
+    let outer : outer_of s f ≡ pos 0 = none_left (outer_of s f) (omega arith) in
+    let a : nat_abs (pos f.a -ℤ outer_of s f) ≡ f.a = ap (λ z. nat_abs (pos f.a -ℤ z)) outer ∙ same_size f.a in
+    let b : clipped (pos f.b +ℤ inner_of s f) ≡ f.b = ap (λ z. clipped (pos f.b +ℤ z)) inner ∙ same_plus f.b hb in
+    let c : clipped (pos f.c -ℤ inner_of s f) ≡ f.c = ap (λ z. clipped (pos f.c -ℤ z)) inner ∙ same_less f.c hc in
+    let d : nat_abs (pos f.d +ℤ outer_of s f) ≡ f.d = ap (λ z. nat_abs (pos f.d +ℤ z)) outer ∙ same_more f.d in
+    λ i. record { a = a i; b = b i; c = c i; d = d i }
+  where
+    same_size : (n : ℕ) → nat_abs (pos n -ℤ pos 0) ≡ n
+    same_size n = omega (arith, ints)
+
+    same_more : (n : ℕ) → nat_abs (pos n +ℤ pos 0) ≡ n
+    same_more n = omega (arith, ints)
+
+    same_plus : (n : ℕ) → n < 256 → clipped (pos n +ℤ pos 0) ≡ n
+    same_plus n h = let m : min (n + 0) 255 ≡ n = omega arith in m
+
+    same_less : (n : ℕ) → n < 256 → clipped (pos n -ℤ pos 0) ≡ n
+    same_less n h = sym (clipped_sub n 0 (pos n -ℤ pos 0) h refl) ∙ (let m : n - 0 ≡ n = omega arith in m)

@@ -1,3 +1,5 @@
 pub mod Components
 pub mod Corrections
 pub mod Levels
+pub mod Eights
+pub mod Squares

@@ -5,6 +5,7 @@ use Rattle.transform.specs.Signs.{with_sign}
 use Rattle.transform.specs.Sums.{brought}
 use Rattle.samples.specs.Clipping.{clipped}
 use Rattle.samples.specs.declared.deblocking.Four.{Four}
+use Rattle.samples.specs.declared.deblocking.FourRows.{FourRows}
 
 -- z / n with the fraction dropped
 unfoldable pub quotient : ℤ → ℕ → ℤ
@@ -42,3 +43,7 @@ new_d strength f = pos f.d +ℤ outer_of strength f
 abbrev pub deblocked : ℕ → Four → Four
 deblocked strength f =
     record { a = unsigned_abs (new_a strength f); b = clipped (pos f.b +ℤ inner_of strength f); c = clipped (pos f.c -ℤ inner_of strength f); d = unsigned_abs (new_d strength f) }
+
+-- the four samples at place i of eight along an edge
+abbrev pub four_at : FourRows → ℕ → Four
+four_at r i = record { a = slice_index r.a i; b = slice_index r.b i; c = slice_index r.c i; d = slice_index r.d i }

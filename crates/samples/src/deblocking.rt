@@ -1,8 +1,8 @@
-// The deblocking filter of four samples over an edge of two blocks. The rule has signed corrections; the code has their sizes and goes by
-// which side is greater, so that all of it is unsigned.
-ghost use Rattle.std.specs.Prelude.{◌≡◌, ◌+◌, ◌*◌, pos, ◌+ℤ◌, ◌-ℤ◌, unsigned_abs};
+// The deblocking filter of four samples over an edge of two blocks, and of eight such fours beside each other. The rule has signed corrections; the code has
+// their sizes and goes by which side is greater, so that all of it is unsigned.
+ghost use Rattle.std.specs.Prelude.{◌≡◌, ℕ, true, ◌<◌, ◌+◌, ◌*◌, pos, ◌+ℤ◌, ◌-ℤ◌, unsigned_abs};
 ghost use Rattle.samples.specs.Clipping.{clipped};
-ghost use Rattle.samples.specs.Deblocking.{deblocked, inner_of, new_a, new_d, outer_of, strength_of};
+ghost use Rattle.samples.specs.Deblocking.{deblocked, four_at, inner_of, new_a, new_d, outer_of, strength_of};
 
 // The strength for each quantizer from 1 to 31, by eights.
 const STRENGTHS: [[u8; 8]; 4] = [
@@ -98,4 +98,41 @@ pub fn deblock(quantizer: u8, four: Four) -> Four
     let (a, d) = four.outer_samples(strength);
     let (b, c) = four.inner_samples(strength);
     Four { a, b, c, d }
+}
+
+// Whether the filter leaves four samples as they are for sure: where it does not correct the inner ones, it does not correct the outer ones.
+pub fn is_kept(quantizer: u8, four: Four) -> bool
+    ensures { result ≡ true → deblocked (strength_of quantizer) four ≡ four }
+{
+    four.inner(strength_of(quantizer)) == 0
+}
+
+// The samples at eight places along an edge, by rows: `a` and `b` before it, `c` and `d` after it.
+#[derive(Clone, Copy)]
+pub struct FourRows {
+    pub a: [u8; 8],
+    pub b: [u8; 8],
+    pub c: [u8; 8],
+    pub d: [u8; 8],
+}
+
+// The four rows after the filter, at each of the eight places.
+pub fn deblock_rows(quantizer: u8, rows: &FourRows) -> FourRows
+    ensures { (i : ℕ) → i < 8 → four_at result i ≡ deblocked (strength_of quantizer) (four_at rows.now i) }
+{
+    let (mut a, mut b, mut c, mut d) = ([0; 8], [0; 8], [0; 8], [0; 8]);
+    for i in 0..8 {
+        let four = Four {
+            a: rows.a[i],
+            b: rows.b[i],
+            c: rows.c[i],
+            d: rows.d[i],
+        };
+        let new = deblock(quantizer, four);
+        a[i] = new.a;
+        b[i] = new.b;
+        c[i] = new.c;
+        d[i] = new.d;
+    }
+    FourRows { a, b, c, d }
 }

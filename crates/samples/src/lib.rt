@@ -9,8 +9,11 @@ mod prediction;
 mod vectors;
 
 pub use ages::{NEVER, next_age};
-pub use deblocking::{Four, deblock};
-pub use prediction::{Rounding, UnknownRounding, add_residual, between_four, between_two, predict};
+pub use deblocking::{Four, FourRows, deblock, deblock_rows, is_kept};
+pub use prediction::{
+    Rounding, UnknownRounding, add_residual, add_residuals, between_four, between_two, predict,
+    squares_between_four, squares_between_two,
+};
 pub use vectors::{chroma_component, median, vector_component};
 
 // The definitions that the contracts of this crate and of the transforms cite give the worked figures.

@@ -1,5 +1,5 @@
 // The prediction of one sample, and its sum with a residual.
-ghost use Rattle.std.specs.Prelude.{◌≡◌, ◌≤◌, pos, ◌+ℤ◌};
+ghost use Rattle.std.specs.Prelude.{◌≡◌, ℕ, ◌<◌, ◌≤◌, pos, ◌+ℤ◌, slice_index, slice_index_or};
 ghost use Rattle.samples.specs.Clipping.{clipped};
 ghost use Rattle.samples.specs.Prediction.{between_four, between_two, predicted, rounding_named, rounding_of};
 
@@ -56,6 +56,34 @@ pub fn between_four(rounding: Rounding, a: u8, b: u8, c: u8, d: u8) -> u8
     ((sum + 2 - u16::from(rounding)) / 4) as u8
 }
 
+// Midway between each two neighbours of two squares of 8 by 8.
+pub fn squares_between_two(rounding: Rounding, a: &[u8; 64], b: &[u8; 64]) -> [u8; 64]
+    ensures { (i : ℕ) → i < 64 → slice_index result i ≡ between_two (rounding_of rounding) (slice_index a.now i) (slice_index b.now i) }
+{
+    let mut square = [0; 64];
+    for (i, sample) in square.iter_mut().enumerate() {
+        *sample = between_two(rounding, a[i], b[i]);
+    }
+    square
+}
+
+// In the middle of each four neighbours of four squares of 8 by 8.
+pub fn squares_between_four(
+    rounding: Rounding,
+    a: &[u8; 64],
+    b: &[u8; 64],
+    c: &[u8; 64],
+    d: &[u8; 64],
+) -> [u8; 64]
+    ensures { (i : ℕ) → i < 64 → slice_index result i ≡ between_four (rounding_of rounding) (slice_index a.now i) (slice_index b.now i) (slice_index c.now i) (slice_index d.now i) }
+{
+    let mut square = [0; 64];
+    for (i, sample) in square.iter_mut().enumerate() {
+        *sample = between_four(rounding, a[i], b[i], c[i], d[i]);
+    }
+    square
+}
+
 // The prediction where half steps lead across and down, which are two values of the vector and no choice of a step. `a` lies at the place itself, `b` right of it, `c` below it, `d` below `b`.
 pub fn predict(
     rounding: Rounding,
@@ -81,4 +109,15 @@ pub fn add_residual(prediction: u8, residual: i16) -> u8
     ensures { result ≡ clipped (pos prediction +ℤ residual) }
 {
     (i32::from(prediction) + i32::from(residual)).clamp(0, 255) as u8
+}
+
+// The predictions of a square of 8 by 8 and their residuals, each sum brought into 0 to 255.
+pub fn add_residuals(predictions: &[u8; 64], residuals: &[i16; 64]) -> [u8; 64]
+    ensures { (i : ℕ) → i < 64 → slice_index result i ≡ clipped (pos (slice_index predictions.now i) +ℤ slice_index_or residuals.now i (pos 0)) }
+{
+    let mut sums = [0; 64];
+    for (i, sum) in sums.iter_mut().enumerate() {
+        *sum = add_residual(predictions[i], residuals[i]);
+    }
+    sums
 }

@@ -8,7 +8,6 @@ use crate::fields::split_field;
 use crate::numbers::{number, unhex};
 use records::types::PictureKind;
 use std::alloc::{AllocError, Global};
-use std::fmt;
 
 // What is wrong with a line that is no call.
 #[derive(Clone, Copy)]
@@ -21,23 +20,6 @@ pub enum Mistake {
     Macroblocks,
     Bytes,
     Fields,
-}
-
-impl fmt::Display for Mistake {
-    fn fmt<W: fmt::Write>(&self, f: &mut fmt::Formatter<W>) -> fmt::Result {
-        match self {
-            Mistake::Call => f.write_str("no such call"),
-            Mistake::Store => f.write_str("the store is bytes or tiles"),
-            Mistake::Transform => f.write_str("the transform is two-pass or direct"),
-            Mistake::Number => f.write_str("a decimal number below 4294967296 is due"),
-            Mistake::Kind => f.write_str("the kind is 0 (INTRA) or 1 (INTER)"),
-            Mistake::Macroblocks => f.write_str(
-                "the number of macroblocks is a decimal number below 4294967296",
-            ),
-            Mistake::Bytes => f.write_str("bytes are pairs of hexadecimal digits, or - for none"),
-            Mistake::Fields => f.write_str("too many fields"),
-        }
-    }
 }
 
 // Why a line is not read.

@@ -1,11 +1,15 @@
 -- A reel with the memory that the script chose for it.
-use Rattle.std.specs.Prelude.{◌≡◌, ℕ, Bool, List, length, ℤ, vec_items}
+use Rattle.std.specs.Prelude.{◌≡◌, ℕ, Bool, List, None, ℤ, pos, replicate, vec_items}
 use Rattle.transform.specs.Inverse.{direct, two_pass}
 use Rattle.pictures.specs.declared.formats.Format.{Format}
+use Rattle.motion.specs.declared.vectors.Vector.{Vector}
+use Rattle.pictures.specs.Formats.{columns_of, rows_of}
+use Rattle.pictures.specs.Pictures.{Picture}
 use Rattle.stores.specs.Bytes.{bytes_seen}
 use Rattle.stores.specs.Tiles.{tiles_seen}
 use Rattle.calls.specs.Held.{Held, cells_of, fits}
-use Rattle.calls.specs.Runs.{Calling, run}
+use Rattle.calls.specs.declared.answers.Answer.{Answer}
+use Rattle.calls.specs.Runs.{Calling, reply, run, step}
 use Rattle.reel.specs.declared.memory.Memory.{Memory}
 use Rattle.replay.specs.declared.Stage.{Stage}
 use Rattle.reel.specs.Memories.{held_in}
@@ -38,11 +42,35 @@ meaning_of Direct = direct
 abbrev pub Ran : TransformKind → Stage → Held → List Calling → Stage → Held → Type 0
 Ran kind stage held calls stage' held' = state_of stage' held' ≡ run (setting_at stage (meaning_of kind) held) (state_of stage held) calls
 
--- a memory made of two stores has tables of a format's size
+-- a stage, what its memory holds and an answer are those of one call; format, transform and sizes are as they were
+pub record Made (kind : TransformKind) (stage : Stage) (held : Held) (call : Calling) (stage' : Stage) (held' : Held) (a : Answer) : Type 0 where
+  pub state : state_of stage' held' ≡ step (setting_at stage (meaning_of kind) held) (state_of stage held) call
+  pub answer : a ≡ reply (setting_at stage (meaning_of kind) held) (state_of stage held) call
+  pub setting : setting_at stage' (meaning_of kind) held' ≡ setting_at stage (meaning_of kind) held
+
+-- what new memory holds: zeros and absent marks
+abbrev pub blank_picture : Format → Picture
+blank_picture format = record { wide = columns_of format; high = rows_of format; sample = λ _ _ _. 0 }
+
+abbrev pub still : Vector
+still = record { horizontal = pos 0; vertical = pos 0 }
+
+abbrev pub blank : Format → Held
+blank format =
+    record {
+      finished = blank_picture format;
+      working = blank_picture format;
+      finished_ages = replicate (cells_of format) 0;
+      working_ages = replicate (cells_of format) 0;
+      vectors = replicate (cells_of format) still;
+      marks = replicate (cells_of format) None;
+    }
+
+-- a memory made of two stores has blank tables of a format's size
 pub record Tabled {S : Type 0} (format : Format) (finished working : S) (m : Memory S) : Type 0 where
   pub first : m.finished ≡ finished
   pub second : m.working ≡ working
-  pub finished_ages : length (vec_items m.finished_ages) ≡ cells_of format
-  pub working_ages : length (vec_items m.working_ages) ≡ cells_of format
-  pub vectors : length (vec_items m.vectors) ≡ cells_of format
-  pub marks : length (vec_items m.marks) ≡ cells_of format
+  pub finished_ages : vec_items m.finished_ages ≡ replicate (cells_of format) 0
+  pub working_ages : vec_items m.working_ages ≡ replicate (cells_of format) 0
+  pub vectors : vec_items m.vectors ≡ replicate (cells_of format) still
+  pub marks : vec_items m.marks ≡ replicate (cells_of format) None

@@ -1,13 +1,19 @@
 // The calls of a reel in its seat.
-ghost use Rattle.std.specs.Prelude.{◌≡◌, true, IfOk, IsSome};
+ghost use Rattle.std.specs.Prelude.{◌≡◌, true, length, IfOk, IsSome};
 ghost use Rattle.std.specs.Option.{option_map};
-ghost use Rattle.calls.specs.Runs.{call_of, calls_of};
+ghost use Rattle.pictures.specs.Formats.{columns_of, rows_of};
+ghost use Rattle.calls.specs.Runs.{asking_age, call_of, calls_of, reply, run};
 ghost use Rattle.call_lines.specs.Lines.{told};
+ghost use Rattle.replay.specs.Stages.{format_of, setting_at, state_of};
 ghost use Rattle.replay.specs.declared.Stage.TheVariants.{Resting};
-ghost use Rattle.transcripts.specs.Tallies.{one_more};
-ghost use Rattle.seats.specs.Seats.{Ran, held_by, seated};
+ghost use Rattle.transcripts.specs.Told.{Tells};
+ghost use Rattle.seats.specs.Copies.{laid_over, plane_samples, plane_size};
+ghost use Rattle.seats.specs.Seats.{Ran, blank, held_by, meaning_of, seated};
+ghost use Rattle.seats.specs.Steps.{Turned, setting_in, state_in};
+ghost use Rattle.seats.specs.Tellings.{ClosesLast, miss_calls, miss_line, tell_ages, tell_answer, tell_answers, tell_calls, tell_leaving, tell_rows, told_age};
 ghost use Rattle.seats.specs.Turns.{call_in, calls_in};
 
+use crate::copies::copy_table;
 use crate::memories::StoredMemory;
 use crate::seat::{Choices, Seat};
 use call_lines::line::{Line, Said, TransformKind};
@@ -65,20 +71,42 @@ fn calls_of(heap: Global, lines: &[Said]) -> Result<Vec<Call<'_>>, AllocError>
     lines.iter().filter_map(call_of).collect(heap)
 }
 
-// The calls of some lines without a reel: each is out of turn.
-pub fn miss_calls(lines: &[Said], transcript: &mut Transcript) {
-    for call in lines.iter().filter_map(call_of) {
+// Tells that the call of a line is out of turn, if it makes one.
+fn miss_line(line: &Said, transcript: &mut Transcript)
+    ensures { Tells (miss_line (call_in (told line.now))) transcript.old transcript.new }
+{
+    if let Some(call) = call_of(line) {
         transcript.answer(Word::from(&call), Answer::OutOfTurn);
     }
 }
 
-// Tells the answers to calls. A closing stands last, so that the memory still holds the picture that it finished.
-fn tell(calls: &[Call], answers: &[Answer], memory: &StoredMemory, transcript: &mut Transcript) {
-    for (call, answer) in calls.iter().zip(answers.iter()) {
-        transcript.answer(Word::from(call), *answer);
+// The calls of some lines without a reel: each is out of turn.
+pub fn miss_calls(lines: &[Said], transcript: &mut Transcript)
+    ensures { Tells (miss_calls (calls_in lines.now)) transcript.old transcript.new }
+{
+    for line in lines {
+        miss_line(line, transcript);
     }
-    if let Some(Answer::Closed { .. }) = answers.last() {
+}
+
+// Tells the answer to a call, and the sums of the picture that it closed, which the memory still holds.
+fn tell_answer(call: &Call, answer: Answer, memory: &StoredMemory, transcript: &mut Transcript)
+    ensures { Tells (tell_answer (call_of call.now) answer (held_by memory.now)) transcript.old transcript.new }
+{
+    transcript.answer(Word::from(call), answer);
+    if let Answer::Closed { .. } = answer {
         transcript.add(memory.sums());
+    }
+}
+
+// Tells the answers to calls. A closing stands last, so that the memory still holds the picture that it finished.
+fn tell(calls: &[Call], answers: &[Answer], memory: &StoredMemory, transcript: &mut Transcript)
+    requires { length answers.now ≡ length calls.now }
+    ensures { Tells (tell_answers (calls_of calls.now) answers.now (held_by memory.now)) transcript.old transcript.new }
+{
+    // by an index, and no `zip`: the invariant then speaks of what is left of both lists
+    for (index, call) in calls.iter().enumerate() {
+        tell_answer(call, answers[index], memory, transcript);
     }
 }
 
@@ -91,9 +119,12 @@ fn replay_lines(
     lines: &[Said],
     transcript: &mut Transcript,
 ) -> Stage
-    requires { seated stage memory.old ≡ true }
+    requires seated { seated stage memory.old ≡ true }
+    requires closing { ClosesLast (calls_in lines.now) }
     ensures size { seated result memory.new ≡ true }
+    ensures format { format_of result ≡ format_of stage }
     ensures runs { IsSome transcript.new.text → Ran transform stage (held_by memory.old) (calls_in lines.now) result (held_by memory.new) }
+    ensures told { Tells (tell_calls (setting_at stage (meaning_of transform) (held_by memory.old)) (state_of stage (held_by memory.old)) (calls_in lines.now)) transcript.old transcript.new }
 {
     let Ok(calls) = calls_of(heap, lines) else {
         transcript.fall_short();
@@ -114,7 +145,8 @@ fn replay_lines(
 impl Seat {
     // Seats a new reel.
     pub fn new(heap: Global, reel: Reel, choices: Choices) -> Result<Seat, AllocError>
-        ensures { IfOk result (λ s. (s.stage ≡ Resting reel) × (s.transform ≡ choices.transform)) }
+        ensures seated { IfOk result (λ s. (s.stage ≡ Resting reel) × (s.transform ≡ choices.transform)) }
+        ensures blank { IfOk result (λ s. held_by s.memory ≡ blank reel.format) }
     {
         let memory = StoredMemory::new(heap, choices.store, reel.format())?;
         Ok(Seat {
@@ -126,8 +158,10 @@ impl Seat {
 
     // Makes the calls of some lines, of which none but the last is a closing, and tells the answers.
     pub fn make_calls(self, heap: Global, lines: &[Said], transcript: &mut Transcript) -> Seat
-        ensures runs { IsSome transcript.new.text → Ran self.transform self.stage (held_by self.memory) (calls_in lines.now) result.stage (held_by result.memory) }
-        ensures transform { result.transform ≡ self.transform }
+        requires { ClosesLast (calls_in lines.now) }
+        ensures runs { IsSome transcript.new.text → state_in result ≡ run (setting_in self) (state_in self) (calls_in lines.now) }
+        ensures setting { setting_in result ≡ setting_in self }
+        ensures told { Tells (tell_calls (setting_in self) (state_in self) (calls_in lines.now)) transcript.old transcript.new }
     {
         let Seat {
             stage,
@@ -142,31 +176,91 @@ impl Seat {
         }
     }
 
+    // Makes one call.
+    pub fn step(self, call: &Call) -> (Seat, Answer)
+        ensures { Turned self (call_of call.now) result.0 result.1 }
+    {
+        let Seat {
+            stage,
+            mut memory,
+            transform,
+        } = self;
+        let (stage, answer) = memory.step(stage, transform, call);
+        let seat = Seat {
+            stage,
+            memory,
+            transform,
+        };
+        (seat, answer)
+    }
+
+    // Copies a plane of the finished picture, row by row from the top, to a buffer that has room for it, and tells how many samples it has.
+    pub fn copy_plane(&self, plane: u32, samples: &mut [u8]) -> usize
+        ensures size { result ≡ plane_size (state_in self.now).contents.held.finished plane }
+        ensures samples { samples.new ≡ laid_over (plane_size (state_in self.now).contents.held.finished plane) (plane_samples (state_in self.now).contents.held.finished plane) samples.old }
+    {
+        self.memory.copy_plane(plane, samples)
+    }
+
+    // Copies the ages of the finished picture to a buffer that has room for them, and tells how many there are.
+    pub fn copy_ages(&self, ages: &mut [u8]) -> usize
+        ensures size { result ≡ length (state_in self.now).contents.held.finished_ages }
+        ensures ages { ages.new ≡ laid_over (length (state_in self.now).contents.held.finished_ages) (state_in self.now).contents.held.finished_ages ages.old }
+    {
+        copy_table(self.memory.ages(), ages)
+    }
+
     // Whether there is a finished picture, which the question after its first age tells.
-    fn check_finished(&self) -> Result<u8, PictureFault> {
+    fn check_finished(&self) -> Result<u8, PictureFault>
+        ensures { told_age result ≡ reply (setting_in self.now) (state_in self.now) (asking_age 0 0) }
+    {
         self.stage.reel().age(self.memory.ages(), 0, 0)
     }
 
-    // Tells the age table of the finished picture, a row of macroblocks to a line.
+    // Tells the ages of the finished picture, a row of macroblocks to a line.
+    fn tell_rows(&self, transcript: &mut Transcript)
+        ensures { Tells (tell_rows (columns_of (setting_in self.now).format) (held_by self.now.memory).finished_ages (rows_of (setting_in self.now).format)) transcript.old transcript.new }
+    {
+        let format = self.stage.reel().format();
+        let columns = format.columns() as usize;
+        let table = self.memory.ages();
+        for row in 0..format.rows() as usize {
+            let ages = &table[row * columns..(row + 1) * columns];
+            transcript.add(AgeRow { ages });
+        }
+    }
+
+    // Tells the age table of the finished picture.
     pub fn tell_ages(&self, transcript: &mut Transcript)
-        ensures { transcript.new.calls ≡ one_more transcript.old.calls }
+        ensures { Tells (tell_ages (setting_in self.now) (state_in self.now)) transcript.old transcript.new }
     {
         match self.check_finished() {
             Ok(_) => {
                 transcript.accept(Word::Ages);
-                let columns = self.stage.reel().format().columns();
-                for ages in self.memory.ages().chunks(columns as usize) {
-                    transcript.add(AgeRow { ages });
-                }
+                self.tell_rows(transcript);
             }
             Err(fault) => transcript.answer(Word::Ages, Answer::Refused(fault)),
         }
     }
 
+    // Leaves the seat and tells nothing. A picture that is still open is closed, as any slip has to be.
+    pub fn abandon(self) {
+        let Seat {
+            stage,
+            mut memory,
+            transform: _,
+        } = self;
+        match stage {
+            Stage::Resting(_) => {}
+            Stage::Open(slip) => {
+                memory.close(slip);
+            }
+        }
+    }
+
     // Leaves the seat. A picture that is still open is closed, which is told and not counted.
     pub fn leave(self, transcript: &mut Transcript)
-        ensures calls { transcript.new.calls ≡ transcript.old.calls }
-        ensures refused { transcript.new.refused ≡ transcript.old.refused }
+        ensures { Tells (tell_leaving (setting_in self) (state_in self)) transcript.old transcript.new }
     {
         let Seat {
             stage,

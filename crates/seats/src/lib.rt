@@ -4,5 +4,6 @@
 #![tactic(auto)]
 
 pub mod calling;
+mod copies;
 mod memories;
 pub mod seat;

@@ -2,18 +2,20 @@
 ghost use Rattle.std.specs.Prelude.{◌≡◌, true, IfOk};
 ghost use Rattle.calls.specs.Effects.{picture_closed};
 ghost use Rattle.calls.specs.Held.{fits};
-ghost use Rattle.calls.specs.Runs.{calls_of};
+ghost use Rattle.calls.specs.Runs.{call_of, calls_of, replies};
 ghost use Rattle.reel.specs.Memories.{held_in};
-ghost use Rattle.replay.specs.Stages.{format_of, stage_in};
-ghost use Rattle.seats.specs.Seats.{Ran, Tabled, held_by, seated, sums_of};
+ghost use Rattle.replay.specs.Stages.{format_of, setting_at, stage_in, state_of};
+ghost use Rattle.seats.specs.Copies.{laid_over, plane_samples, plane_size};
+ghost use Rattle.seats.specs.Seats.{Made, Ran, Tabled, blank, held_by, meaning_of, seated, sums_of};
 
+use crate::copies::copy_plane;
 use call_lines::line::{StoreKind, TransformKind};
 use calls::answers::{Answer, Call};
 use motion::vectors::Vector;
 use pictures::{Format, Store};
 use reel::memory::Memory;
 use reel::reels::Slip;
-use replay::{Stage, replay};
+use replay::{Stage, replay, step};
 use std::alloc::{AllocError, Global};
 use stores::{ByteStore, TileStore};
 use transcripts::sums::{PictureSums, sum_plane, sum_table};
@@ -58,11 +60,30 @@ fn replay_by<S: Store>(
 ) -> Result<(Stage, Vec<Answer>), Stage>
     requires { fits (format_of stage) (held_in S.picture memory.old) ≡ true }
     ensures size { fits (format_of (stage_in result)) (held_in S.picture memory.new) ≡ true }
+    ensures format { format_of (stage_in result) ≡ format_of stage }
     ensures runs { IfOk result (λ p. Ran transform stage (held_in S.picture memory.old) (calls_of calls.now) p.0 (held_in S.picture memory.new)) }
+    ensures answered { IfOk result (λ p. p.1.items ≡ replies (setting_at stage (meaning_of transform) (held_in S.picture memory.old)) (state_of stage (held_in S.picture memory.old)) (calls_of calls.now)) }
 {
     match transform {
         TransformKind::TwoPass => replay(stage, memory, &TwoPass, calls, heap),
         TransformKind::Direct => replay(stage, memory, &Direct, calls, heap),
+    }
+}
+
+// Makes one call by the transform that was chosen: two arms, as for a list of calls.
+fn step_by<S: Store>(
+    stage: Stage,
+    memory: &mut Memory<S>,
+    transform: TransformKind,
+    call: &Call,
+) -> (Stage, Answer)
+    requires { fits (format_of stage) (held_in S.picture memory.old) ≡ true }
+    ensures size { fits (format_of result.0) (held_in S.picture memory.new) ≡ true }
+    ensures made { Made transform stage (held_in S.picture memory.old) (call_of call.now) result.0 (held_in S.picture memory.new) result.1 }
+{
+    match transform {
+        TransformKind::TwoPass => step(stage, memory, &TwoPass, call),
+        TransformKind::Direct => step(stage, memory, &Direct, call),
     }
 }
 
@@ -93,7 +114,8 @@ fn sums_of<S: Store>(memory: &Memory<S>) -> PictureSums
 impl StoredMemory {
     // A memory for reels of a format: zeros and absent marks.
     pub fn new(heap: Global, kind: StoreKind, format: Format) -> Result<StoredMemory, AllocError>
-        ensures { IfOk result (λ m. fits format (held_by m) ≡ true) }
+        ensures fits { IfOk result (λ m. fits format (held_by m) ≡ true) }
+        ensures blank { IfOk result (λ m. held_by m ≡ blank format) }
     {
         match kind {
             StoreKind::Bytes => {
@@ -119,11 +141,25 @@ impl StoredMemory {
     ) -> Result<(Stage, Vec<Answer>), Stage>
         requires { seated stage self.old ≡ true }
         ensures size { seated (stage_in result) self.new ≡ true }
+        ensures format { format_of (stage_in result) ≡ format_of stage }
         ensures runs { IfOk result (λ p. Ran transform stage (held_by self.old) (calls_of calls.now) p.0 (held_by self.new)) }
+        ensures answered { IfOk result (λ p. p.1.items ≡ replies (setting_at stage (meaning_of transform) (held_by self.old)) (state_of stage (held_by self.old)) (calls_of calls.now)) }
     {
         match self {
             StoredMemory::Bytes(memory) => replay_by(stage, memory, transform, calls, heap),
             StoredMemory::Tiles(memory) => replay_by(stage, memory, transform, calls, heap),
+        }
+    }
+
+    // Makes one call.
+    pub fn step(&mut self, stage: Stage, transform: TransformKind, call: &Call) -> (Stage, Answer)
+        requires { seated stage self.old ≡ true }
+        ensures size { seated result.0 self.new ≡ true }
+        ensures made { Made transform stage (held_by self.old) (call_of call.now) result.0 (held_by self.new) result.1 }
+    {
+        match self {
+            StoredMemory::Bytes(memory) => step_by(stage, memory, transform, call),
+            StoredMemory::Tiles(memory) => step_by(stage, memory, transform, call),
         }
     }
 
@@ -146,6 +182,17 @@ impl StoredMemory {
         match self {
             StoredMemory::Bytes(memory) => &memory.finished_ages,
             StoredMemory::Tiles(memory) => &memory.finished_ages,
+        }
+    }
+
+    // Copies a plane of the finished picture, row by row from the top, where there is room for it, and tells how many samples it has.
+    pub fn copy_plane(&self, plane: u32, samples: &mut [u8]) -> usize
+        ensures size { result ≡ plane_size (held_by self.now).finished plane }
+        ensures samples { samples.new ≡ laid_over (plane_size (held_by self.now).finished plane) (plane_samples (held_by self.now).finished plane) samples.old }
+    {
+        match self {
+            StoredMemory::Bytes(memory) => copy_plane(&memory.finished, plane, samples),
+            StoredMemory::Tiles(memory) => copy_plane(&memory.finished, plane, samples),
         }
     }
 

@@ -1,14 +1,15 @@
 -- No two places of a byte store have one byte_address, and each byte_address lies in memory.
-use Rattle.std.proofs.Common.{◌≡◌, ℕ, zero, suc, ◌+◌, ◌-◌, ◌*◌, ◌%◌, ◌<◌, ◌≤◌, cond, ◌&&◌, eqb, ltb, leb, List, min, length, get_or, set, sym, refl, ap, ◌∙◌, ⊎_elim, mod-eq_of_lt, arith}
+use Rattle.std.proofs.Common.{◌≡◌, ℕ, zero, suc, ◌+◌, ◌-◌, ◌*◌, ◌/◌, ◌%◌, ◌<◌, ◌≤◌, Bool, true, false, ◌⊎◌, inl, inr, cond, ◌&&◌, eqb, ltb, leb, List, min, length, replicate, get_or, set, sym, refl, ap, ◌∙◌, ⊎_elim, mod-eq_of_lt, arith}
 use native.Mathlib.Nat.{mul-mul-mul_comm}
 use Rattle.std.proofs.lemmas.List.{get_or-set_same, get_or-set_other}
+use Rattle.std.proofs.Math.Nat.{add-mul}
 use Rattle.std.proofs.lemmas.Nat.{mul-add-lt}
-use Rattle.std.proofs.lemmas.Bool.{cases_eq, cond-true, eq-eqb, ne_eqb}
+use Rattle.std.proofs.lemmas.Bool.{cases_eq, cases_lt, cond-true, eq-eqb, ne_eqb}
 use Rattle.std.proofs.lemmas.Bool.Decides.{nat_tests}
-use Rattle.pictures.specs.Pictures.{painted, side, span, start}
-use Rattle.pictures.proofs.Addresses.{Within, within, Apart, same_digits, paints_run}
+use Rattle.pictures.specs.Pictures.{Picture, painted, painted_eight, side, span, start}
+use Rattle.pictures.proofs.Addresses.{Within, within, is_within, Apart, of_span, same_digits, paints_run}
 use Rattle.tables.specs.Cells.{in_part}
-use Rattle.stores.specs.Bytes.{RunAt, byte_address, byte_at, bytes_seen}
+use Rattle.stores.specs.Bytes.{RowsAt, RunAt, byte_address, byte_at, bytes_seen}
 
 -- a row and a column of a plane of side s are within its samples
 in_plane : (columns rows s x y : ℕ) → x < columns * s → y < rows * s → y * (columns * s) + x < columns * rows * (s * s)
@@ -84,3 +85,121 @@ run_copied columns rows columns' rows' p x y right at count bytes others after c
     tests : (at count from to n x y : ℕ) → at + count ≤ from → at + count ≤ to
         → cond (in_part at count (min from to) n) x y % 256 ≡ cond (leb at n && ltb n (at + count)) (x % 256) (y % 256)
     tests at count from to n x y h i = grind (arith, nat_tests)
+
+-- a row lies so far after the one that is so many above it
+below : (columns rows p x y row : ℕ) → byte_address columns rows p x (y + row) ≡ byte_address columns rows p x y + row * (columns * side p)
+unfolding byte_address
+below columns rows p x y row = plain (start p * (columns * rows)) (columns * side p)
+  where
+    plain : (a w : ℕ) → a + ((y + row) * w + x) ≡ a + (y * w + x) + row * w
+    plain a w = omega (arith, add-mul y row w)
+
+-- a square whose corners lie inside ends in memory
+pub square_kept : (columns rows p x y : ℕ) → Within columns rows p (x + 7) (y + 7) → byte_address columns rows p x y + 7 * (columns * side p) + 8 ≤ columns * rows * 384
+square_kept columns rows p x y w =
+    omega (arith, address_below columns rows p (x + 7) (y + 7) w, beside columns rows p x (y + 7) 7, below columns rows p x y 7)
+
+module _ (columns rows p x y at stride : ℕ) (kept : RowsAt columns rows p x y at stride) where
+  corner : Within columns rows p x y
+  corner = within columns rows p x y kept.isin
+
+  in_square : (row d : ℕ) → row < 8 → d < 8 → Within columns rows p (x + d) (y + row)
+  in_square row d h k =
+      let w = within columns rows p (x + 7) (y + 7) kept.last in
+      record { plane = w.plane; across = omega (arith, w.across); down = omega (arith, w.down) }
+
+  row_at : (row : ℕ) → at + row * stride ≡ byte_address columns rows p x (y + row)
+  row_at row = rw (kept.from, kept.apart) (sym (below columns rows p x y row))
+
+  -- the bytes are the samples of its places
+  pub square_seen : (bytes values : List ℕ) → ((k : ℕ) → k < 64 → get_or values k 0 ≡ get_or bytes (at + k / 8 * stride + k % 8) 0) → ((k : ℕ) → get_or values k 0 < 256)
+      → (k : ℕ) → k < 64 → get_or values k 0 ≡ (bytes_seen columns rows bytes).sample p (x + k % 8) (y + k / 8)
+  square_seen bytes values each small k h =
+      let w = in_square (k / 8) (k % 8) (omega arith) (omega arith) in
+      let a : byte_address columns rows p (x + k % 8) (y + k / 8) ≡ at + k / 8 * stride + k % 8 =
+      beside columns rows p x (y + k / 8) (k % 8) ∙ ap (λ n. n + k % 8) (sym (row_at (k / 8))) in
+      sym (mod-eq_of_lt (small k)) ∙ ap (λ n. n % 256) (each k h) ∙ ap (byte_at bytes) (sym a)
+      ∙ sym (cond-true _ _ _ (is_within columns rows p (x + k % 8) (y + k / 8) w))
+
+  -- and one row of them is set
+  pub row_set : (bytes after values : List ℕ) (row : ℕ) → row < 8 → ((k : ℕ) → get_or values k 0 < 256)
+      → ((k : ℕ) → get_or after k 0 ≡ cond (leb (at + row * stride) k && ltb k (at + row * stride + 8)) (get_or values (8 * row + (k - (at + row * stride))) 0) (get_or bytes k 0))
+      → bytes_seen columns rows after ≡ painted (span p (y + row) x (x + 8)) (λ _ u v. get_or values (8 * (v - y) + (u - x)) 0) (bytes_seen columns rows bytes)
+  row_set bytes after values row h small cells =
+      paints_run columns rows (byte_address columns rows) (bytes_apart columns rows) (byte_at bytes) (byte_at after) (λ a. get_or values (8 * row + (a - (at + row * stride))) 0 % 256)
+      (λ _ u v. get_or values (8 * (v - y) + (u - x)) 0) p x (y + row) 8
+      (record { within_row = λ d k. in_square row d h k; one_by_one = λ d k. beside columns rows p x (y + row) d })
+      (λ a. ap (λ n. n % 256) (cells a) ∙ mod_cond _ _ _
+      ∙ ap (λ n. cond (leb n a && ltb a (n + 8)) (get_or values (8 * row + (a - (at + row * stride))) 0 % 256) (byte_at bytes a)) (row_at row))
+      (λ q u v i e.
+      let t = of_span p (y + row) x (x + 8) q u v e in
+      let back : x + (u - x) ≡ u = omega (arith, t.2) in
+      let there : byte_address columns rows q u v ≡ at + row * stride + (u - x) =
+      ap (λ m. byte_address columns rows m u v) (sym t.0) ∙ ap (λ m. byte_address columns rows p u m) (sym t.1) ∙ ap (λ m. byte_address columns rows p m (y + row)) (sym back)
+      ∙ beside columns rows p x (y + row) (u - x) ∙ ap (λ n. n + (u - x)) (sym (row_at row)) in
+      let same : 8 * row + (byte_address columns rows q u v - (at + row * stride)) ≡ 8 * (v - y) + (u - x) = omega (arith, t.1) in
+      mod-eq_of_lt (small _) ∙ ap (λ n. get_or values n 0) same)
+    where
+      mod_cond : (b : Bool) (m n : ℕ) → cond b m n % 256 ≡ cond b (m % 256) (n % 256)
+      mod_cond true m n = refl
+      mod_cond false m n = refl
+
+-- the rows of a square that are copied out so far
+pub record CopiedOut (bytes : List ℕ) (at stride row : ℕ) (values : List ℕ) : Type 0 where
+  pub each : (k : ℕ) → k < 8 * row → get_or values k 0 ≡ get_or bytes (at + k / 8 * stride + k % 8) 0
+  pub small : (k : ℕ) → get_or values k 0 < 256
+
+pub copied_more : (bytes : List ℕ) (at stride row : ℕ) (values after : List ℕ) → CopiedOut bytes at stride row values → ((k : ℕ) → get_or bytes k 0 < 256)
+    → ((k : ℕ) → get_or after k 0 ≡ cond (leb (8 * row) k && ltb k (8 * row + 8)) (get_or bytes (at + row * stride + (k - 8 * row)) 0) (get_or values k 0))
+    → CopiedOut bytes at stride (row + 1) after
+copied_more bytes at stride row values after was fits step = record { each = λ k h. by k h (cases_lt k (8 * row)); small = λ k. rw (step k) (either _ _ _ (fits _) (was.small k)) }
+  where
+    by : (k : ℕ) → k < 8 * (row + 1) → (k < 8 * row) ⊎ (8 * row ≤ k) → get_or after k 0 ≡ get_or bytes (at + k / 8 * stride + k % 8) 0
+    by k h (inl l) =
+        let e : (leb (8 * row) k && ltb k (8 * row + 8)) ≡ false = grind (arith, nat_tests) in
+        step k ∙ simp e (was.each k l)
+    by k h (inr l) =
+        let e : (leb (8 * row) k && ltb k (8 * row + 8)) ≡ true = grind (arith, nat_tests) in
+        let d : k / 8 ≡ row = omega arith in
+        let m : k % 8 ≡ k - 8 * row = omega arith in
+        step k ∙ simp (e, d, m)
+
+    either : (b : Bool) (m n : ℕ) → m < 256 → n < 256 → cond b m n < 256
+    either true m n h k = h
+    either false m n h k = k
+
+pub zeros_small : (n k : ℕ) → get_or (replicate n 0) k 0 < 256
+zeros_small zero k = omega arith
+zeros_small (suc n) zero = omega arith
+zeros_small (suc n) (suc k) = zeros_small n k
+
+-- eight bytes of a run are the samples of its places
+pub eight_seen : (columns rows p x y right at : ℕ) (bytes eight : List ℕ) → RunAt columns rows p x y right at 8
+    → ((i : ℕ) → i < 8 → get_or eight i 0 ≡ get_or bytes (at + i) 0) → ((i : ℕ) → get_or eight i 0 < 256)
+    → (i : ℕ) → i < 8 → get_or eight i 0 ≡ (bytes_seen columns rows bytes).sample p (x + i) y
+eight_seen columns rows p x y right at bytes eight run each small i h =
+    let w = within_row columns rows p x y 8 i (within columns rows p x y run.isin) run.in_row h in
+    let a : byte_address columns rows p (x + i) y ≡ at + i = beside columns rows p x y i ∙ ap (λ n. n + i) (sym run.from) in
+    sym (mod-eq_of_lt (small i)) ∙ ap (λ n. n % 256) (each i h) ∙ ap (byte_at bytes) (sym a) ∙ sym (cond-true _ _ _ (is_within columns rows p (x + i) y w))
+
+mod_cond : (b : Bool) (m n : ℕ) → cond b m n % 256 ≡ cond b (m % 256) (n % 256)
+mod_cond true m n = refl
+mod_cond false m n = refl
+
+-- eight bytes of a run are set
+pub eight_set : (columns rows p x y right at : ℕ) (bytes values after : List ℕ) → RunAt columns rows p x y right at 8 → ((i : ℕ) → get_or values i 0 < 256)
+    → ((k : ℕ) → get_or after k 0 ≡ cond (leb at k && ltb k (at + 8)) (get_or values (k - at) 0) (get_or bytes k 0))
+    → bytes_seen columns rows after ≡ painted_eight (bytes_seen columns rows bytes) p x y values
+eight_set columns rows p x y right at bytes values after run small cells =
+    let w = within columns rows p x y run.isin in
+    paints_run columns rows (byte_address columns rows) (bytes_apart columns rows) (byte_at bytes) (byte_at after) (λ a. get_or values (a - at) 0 % 256) (λ _ u _. get_or values (u - x) 0) p x y 8
+    (record { within_row = λ d h. within_row columns rows p x y 8 d w run.in_row h; one_by_one = λ d h. beside columns rows p x y d })
+    (λ a. ap (λ n. n % 256) (cells a) ∙ mod_cond _ _ _ ∙ ap (λ n. cond (leb n a && ltb a (n + 8)) (get_or values (a - at) 0 % 256) (byte_at bytes a)) run.from)
+    (λ q u v i e.
+    let t = of_span p y x (x + 8) q u v e in
+    let back : x + (u - x) ≡ u = omega (arith, t.2) in
+    let there : byte_address columns rows q u v ≡ at + (u - x) =
+    ap (λ m. byte_address columns rows m u v) (sym t.0) ∙ ap (λ m. byte_address columns rows p u m) (sym t.1) ∙ ap (λ m. byte_address columns rows p m y) (sym back)
+    ∙ beside columns rows p x y (u - x) ∙ ap (λ n. n + (u - x)) (sym run.from) in
+    let same : byte_address columns rows q u v - at ≡ u - x = omega arith in
+    mod-eq_of_lt (small _) ∙ ap (λ n. get_or values n 0) same)

@@ -1,12 +1,12 @@
 -- No two places of a tiled store have one tile_address, each tile_address lies in memory, and one lane of a word is set alone.
-use Rattle.std.proofs.Common.{◌≡◌, ℕ, zero, suc, ◌+◌, ◌*◌, ◌/◌, ◌%◌, ◌<◌, ◌≤◌, true, cond, ◌&&◌, eqb, ltb, leb, List, [], ◌∷◌, length, get_or, set, sym, refl, ap, ◌∙◌, ⊎_elim, mul-le-mul, arith}
+use Rattle.std.proofs.Common.{◌≡◌, ℕ, zero, suc, ◌+◌, ◌-◌, ◌*◌, ◌/◌, ◌%◌, ◌<◌, ◌≤◌, true, cond, ◌&&◌, eqb, ltb, leb, List, [], ◌∷◌, length, get_or, set, sym, refl, ap, ◌∙◌, ⊎_elim, mul-le-mul, arith}
 use Rattle.std.proofs.lemmas.List.{get_or-set_same, get_or-set_other}
 use Rattle.std.proofs.lemmas.Nat.{mul-add-lt}
 use Rattle.std.proofs.lemmas.Bool.{cases_eq, cond_both, cond-true, cond-false, eq-eqb, eqb-true, ne_eqb}
 use Rattle.std.proofs.lemmas.Bool.Decides.{nat_tests}
 use Rattle.pictures.specs.Pictures.{inside, painted, side, span, start}
-use Rattle.pictures.proofs.Addresses.{Within, within, Apart, Run, same_digits, paints_run}
-use Rattle.stores.specs.Tiles.{WordAt, tile_address, tiles_seen, four, lane_at}
+use Rattle.pictures.proofs.Addresses.{Within, within, is_within, Apart, Run, of_span, same_digits, paints_run}
+use Rattle.stores.specs.Tiles.{SquareAt, WordAt, tile_address, tiles_seen, four, lane_at}
 
 -- the number of a place's macroblock, and of its sample there
 pub tile_below : (columns rows p x y : ℕ) → Within columns rows p x y → y / side p * columns + x / side p < columns * rows
@@ -152,7 +152,7 @@ in_word n w a z e = grind (arith, nat_tests)
 -- so the store that sets a word paints four places of a row with its samples
 pub word_painted : (columns rows p x y right w : ℕ) (words : List ℕ) (word : ℕ) (fresh : ℕ → ℕ) (new : ℕ → ℕ → ℕ → ℕ)
     → WordAt columns rows p x y right w → w < length words → ((a : ℕ) → a / 4 ≡ w → get_or (four word) (a % 4) 0 ≡ fresh a)
-    → ((q u v : ℕ) → inside columns rows q u v ≡ true → fresh (tile_address columns q u v) ≡ new q u v)
+    → ((q u v : ℕ) → inside columns rows q u v ≡ true → span p y x (x + 4) q u v ≡ true → fresh (tile_address columns q u v) ≡ new q u v)
     → tiles_seen columns rows (set words w word) ≡ painted (span p y x (x + 4)) new (tiles_seen columns rows words)
 word_painted columns rows p x y right w words word fresh new at l lanes is =
     let here = within columns rows p x y at.isin in
@@ -162,7 +162,7 @@ word_painted columns rows p x y right w words word fresh new at l lanes is =
     ∙ cond_both (eqb (a / 4) w) (get_or (four word) (a % 4) 0) (lane_at words a) (λ n. n ≡ cond (eqb (a / 4) w) (fresh a) (lane_at words a))
     (λ e. lanes a (eqb-true _ _ e) ∙ sym (cond-true _ _ _ e)) (λ e. sym (cond-false _ _ _ e))
     ∙ ap (λ b. cond b (fresh a) (lane_at words a)) (in_word (tile_address columns p x y) w a (begins_word columns p x y here.plane at.begins) at.holds))
-    (λ q u v i e. is q u v i)
+    is
 
 -- with one value
 pub word_filled : (columns rows p x y right w : ℕ) (words : List ℕ) (word value : ℕ) → WordAt columns rows p x y right w → w < length words
@@ -171,7 +171,7 @@ pub word_filled : (columns rows p x y right w : ℕ) (words : List ℕ) (word va
 word_filled columns rows p x y right w words word value at l h e =
     word_painted columns rows p x y right w words word (λ _. value) _ at l
     (λ a i. ap (λ n. get_or (four n) (a % 4) 0) e ∙ ap (λ bytes. get_or bytes (a % 4) 0) (four_joined value value value value h h h h) ∙ every (a % 4) (omega arith))
-    (λ q u v i. refl)
+    (λ q u v i e. refl)
   where
     every : (n : ℕ) → n < 4 → get_or (value ∷ value ∷ value ∷ value ∷ []) n 0 ≡ value
     every zero g = refl
@@ -187,4 +187,41 @@ pub word_copied : (columns rows columns' rows' p x y right w : ℕ) (words other
 word_copied columns rows columns' rows' p x y right w words others word c r at l e =
     word_painted columns rows p x y right w words word (lane_at others) (tiles_seen columns' rows' others).sample at l
     (λ a i. ap (λ n. get_or (four n) (a % 4) 0) (e ∙ ap (λ n. get_or others n 0) (sym i)))
-    (λ q u v i. rw (← c, ← r) (sym (cond-true _ _ _ i)))
+    (λ q u v i e. rw (← c, ← r) (sym (cond-true _ _ _ i)))
+
+-- a square's words lie inside
+pub word_isin : (columns rows p x y n : ℕ) → SquareAt columns rows p x y → n < 16 → inside columns rows p (x + n % 2 * 4) (y + n / 2) ≡ true
+word_isin columns rows p x y n at h =
+    let a = within columns rows p x y at.isin in
+    let w = within columns rows p (x + 7) (y + 7) at.last in
+    is_within columns rows p (x + n % 2 * 4) (y + n / 2) (record { plane = a.plane; across = omega (arith, w.across); down = omega (arith, w.down) })
+
+-- and one of them is set with four values of the square
+pub word_of_square : (columns rows p x y n w : ℕ) (words values : List ℕ) (word : ℕ) → n < 16 → ((k : ℕ) → get_or values k 0 < 256)
+    → WordAt columns rows p (x + n % 2 * 4) (y + n / 2) (x + n % 2 * 4 + 4) w → w < length words
+    → word ≡ joined (get_or values (4 * n) 0 ∷ get_or values (4 * n + 1) 0 ∷ get_or values (4 * n + 2) 0 ∷ get_or values (4 * n + 3) 0 ∷ [])
+    → tiles_seen columns rows (set words w word)
+    ≡ painted (span p (y + n / 2) (x + n % 2 * 4) (x + n % 2 * 4 + 4)) (λ _ u v. get_or values (8 * (v - y) + (u - x)) 0) (tiles_seen columns rows words)
+word_of_square columns rows p x y n w words values word h small at l e =
+    word_painted columns rows p (x + n % 2 * 4) (y + n / 2) (x + n % 2 * 4 + 4) w words word (λ a. get_or values (4 * n + a % 4) 0) (λ _ u v. get_or values (8 * (v - y) + (u - x)) 0) at l
+    (λ a i. ap (λ m. get_or (four m) (a % 4) 0) e ∙ ap (λ bytes. get_or bytes (a % 4) 0) (four_joined _ _ _ _ (small _) (small _) (small _) (small _)) ∙ lane (a % 4) (omega arith))
+    (λ q u v i s.
+    let t = of_span p (y + n / 2) (x + n % 2 * 4) (x + n % 2 * 4 + 4) q u v s in
+    let here = within columns rows p (x + n % 2 * 4) (y + n / 2) at.isin in
+    let d : ℕ = u - (x + n % 2 * 4) in
+    let lt : d < 4 = omega (arith, t.2) in
+    let back : x + n % 2 * 4 + d ≡ u = omega (arith, t.2) in
+    let there : tile_address columns q u v ≡ tile_address columns p (x + n % 2 * 4) (y + n / 2) + d =
+    ap (λ m. tile_address columns m u v) (sym t.0) ∙ ap (λ m. tile_address columns p u m) (sym t.1) ∙ ap (λ m. tile_address columns p m (y + n / 2)) (sym back)
+    ∙ word_beside columns p (x + n % 2 * 4) (y + n / 2) d here.plane at.begins lt in
+    let begins = begins_word columns p (x + n % 2 * 4) (y + n / 2) here.plane at.begins in
+    let same : 4 * n + tile_address columns q u v % 4 ≡ 8 * (v - y) + (u - x) = omega (arith, t.1) in
+    ap (λ m. get_or values m 0) same)
+  where
+    lane : (i : ℕ) → i < 4
+        → get_or (get_or values (4 * n) 0 ∷ get_or values (4 * n + 1) 0 ∷ get_or values (4 * n + 2) 0 ∷ get_or values (4 * n + 3) 0 ∷ []) i 0 ≡ get_or values (4 * n + i) 0
+    lane zero g = let z : 4 * n + 0 ≡ 4 * n = omega arith in rw z refl
+    lane (suc zero) g = refl
+    lane (suc (suc zero)) g = refl
+    lane (suc (suc (suc zero))) g = refl
+    lane (suc (suc (suc (suc i)))) g = absurd (omega arith)

@@ -19,6 +19,14 @@ pub record RunAt (columns rows p x y right at count : ℕ) : Type 0 where
   pub in_row : x + count ≤ columns * side p
   pub kept : at + count ≤ columns * rows * 384
 
+-- eight bytes from each of eight places on, so far apart, hold the samples of the square of 8 by 8 in plane p from x and y on
+pub record RowsAt (columns rows p x y at stride : ℕ) : Type 0 where
+  pub isin : inside columns rows p x y ≡ true
+  pub last : inside columns rows p (x + 7) (y + 7) ≡ true
+  pub from : at ≡ byte_address columns rows p x y
+  pub apart : stride ≡ columns * side p
+  pub kept : at + 7 * stride + 8 ≤ columns * rows * 384
+
 -- the picture that bytes hold, where it has so many columns and rows
 abbrev pub bytes_seen : ℕ → ℕ → List ℕ → Picture
 bytes_seen columns rows bytes = seen columns rows (byte_address columns rows) (byte_at bytes)

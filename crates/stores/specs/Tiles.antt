@@ -23,6 +23,12 @@ pub record WordAt (columns rows p x y right word : ℕ) : Type 0 where
   pub holds : tile_address columns p x y / 4 ≡ word
   pub kept : word < columns * rows * 96
 
+-- the square of 8 by 8 in plane p from x and y on lies inside, and words begin at its left side
+pub record SquareAt (columns rows p x y : ℕ) : Type 0 where
+  pub begins : x % 4 ≡ 0
+  pub isin : inside columns rows p x y ≡ true
+  pub last : inside columns rows p (x + 7) (y + 7) ≡ true
+
 -- the picture that words hold, where it has so many columns and rows
 abbrev pub tiles_seen : ℕ → ℕ → List ℕ → Picture
 tiles_seen columns rows words = seen columns rows (tile_address columns) (lane_at words)

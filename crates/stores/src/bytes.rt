@@ -1,5 +1,6 @@
-ghost use Rattle.std.specs.Prelude.{◌<◌, IfSome};
-ghost use Rattle.stores.specs.Bytes.{RunAt, byte_address, bytes_seen};
+ghost use Rattle.std.specs.Prelude.{◌≡◌, ℕ, ◌+◌, ◌-◌, ◌*◌, ◌/◌, ◌%◌, ◌<◌, ◌≤◌, ◌&&◌, IfSome, if◌then◌else◌, length, nat_le, nat_lt, slice_index};
+ghost use Rattle.pictures.specs.Pictures.{painted_square};
+ghost use Rattle.stores.specs.Bytes.{RowsAt, RunAt, byte_address, bytes_seen};
 ghost use Rattle.stores.specs.Room.{Placed};
 ghost use Rattle.std.proofs.Common.{rules};
 
@@ -33,6 +34,104 @@ fn run_at(size: Size, plane: u8, across: usize, down: usize, right: usize) -> Op
     Some((at, end - across))
 }
 
+// Where eight samples of a row are kept from a place on, where all of them lie inside.
+fn eight_at(size: Size, plane: u8, across: usize, down: usize) -> Option<usize>
+    requires { across ≤ 65535 }
+    ensures { IfSome result (λ at. RunAt size.columns size.rows plane across down (across + 8) at 8) }
+{
+    let (at, count) = run_at(size, plane, across, down, across + 8)?;
+    if count < 8 {
+        return None;
+    }
+    Some(at)
+}
+
+// The eight bytes from a place of a memory on.
+fn eight_from(bytes: &[u8], at: usize) -> [u8; 8]
+    requires { at + 8 ≤ length bytes.now }
+    ensures each { (i : ℕ) → i < 8 → slice_index result i ≡ slice_index bytes.now (at + i) }
+    ensures small { (i : ℕ) → slice_index result i < 256 }
+{
+    let mut eight = [0; 8];
+    eight.copy_from_slice(&bytes[at..at + 8]);
+    eight
+}
+
+// Sets the eight bytes from a place of a memory on, and no others.
+fn set_eight_from(bytes: &mut [u8], at: usize, values: &[u8; 8])
+    requires { at + 8 ≤ length bytes.old }
+    ensures { (k : ℕ) → slice_index bytes.new k ≡ (if nat_le at k && nat_lt k (at + 8) then slice_index values.now (k - at) else slice_index bytes.old k) }
+{
+    bytes[at..at + 8].copy_from_slice(values);
+}
+
+// Where the rows of a square of 8 by 8 samples are kept, where all of them lie inside: the first one's place, and how far each lies after the one above it.
+fn rows_at(size: Size, plane: u8, across: usize, down: usize) -> Option<(usize, usize)>
+    requires columns { across ≤ 65535 }
+    requires rows { down ≤ 65535 }
+    ensures { IfSome result (λ rows. RowsAt size.columns size.rows plane across down rows.0 rows.1) }
+{
+    let at = place(size, plane, across, down)?;
+    if !size.is_inside(plane, across + 7, down + 7) {
+        return None;
+    }
+    Some((at, size.columns as usize * side_of(plane)))
+}
+
+// Copies eight bytes from a place on into a row of a square, and no others.
+fn copy_out(bytes: &[u8], at: usize, values: &mut [u8; 64], row: usize)
+    requires inside { at + 8 ≤ length bytes.now }
+    requires row { row < 8 }
+    ensures { (k : ℕ) → slice_index values.new k ≡ (if nat_le (8 * row) k && nat_lt k (8 * row + 8) then slice_index bytes.now (at + (k - 8 * row)) else slice_index values.old k) }
+{
+    values[8 * row..8 * row + 8].copy_from_slice(&bytes[at..at + 8]);
+}
+
+// Copies a row of a square into eight bytes from a place on, and no others.
+fn copy_in(bytes: &mut [u8], at: usize, values: &[u8; 64], row: usize)
+    requires inside { at + 8 ≤ length bytes.old }
+    requires row { row < 8 }
+    ensures { (k : ℕ) → slice_index bytes.new k ≡ (if nat_le at k && nat_lt k (at + 8) then slice_index values.now (8 * row + (k - at)) else slice_index bytes.old k) }
+{
+    bytes[at..at + 8].copy_from_slice(&values[8 * row..8 * row + 8]);
+}
+
+// The square whose rows are kept so.
+fn square_from(bytes: &[u8], at: usize, stride: usize) -> [u8; 64]
+    requires { at + 7 * stride + 8 ≤ length bytes.now }
+    ensures each { (k : ℕ) → k < 64 → slice_index result k ≡ slice_index bytes.now (at + k / 8 * stride + k % 8) }
+    ensures small { (k : ℕ) → slice_index result k < 256 }
+{
+    let mut values = [0; 64];
+    for row in 0..8 {
+        copy_out(bytes, at + row * stride, &mut values, row);
+    }
+    values
+}
+
+// Sets the square whose rows are kept so.
+fn set_square(
+    bytes: &mut [u8],
+    size: Size,
+    plane: u8,
+    across: usize,
+    down: usize,
+    values: &[u8; 64],
+) -> bool
+    requires columns { across ≤ 65535 }
+    requires rows { down ≤ 65535 }
+    requires room { size.columns * size.rows * 384 ≤ length bytes.old }
+    ensures { let seen = bytes_seen size.columns size.rows in seen bytes.new ≡ (if result then painted_square (seen bytes.old) plane across down values.now else seen bytes.old) }
+{
+    let Some((at, stride)) = rows_at(size, plane, across, down) else {
+        return false;
+    };
+    for row in 0..8 {
+        copy_in(bytes, at + row * stride, values, row);
+    }
+    true
+}
+
 impl Store for ByteStore {
     ghost picture = { λ s. bytes_seen s.size.columns s.size.rows s.memory.items };
 
@@ -59,6 +158,34 @@ impl Store for ByteStore {
         };
         self.memory[at] = value;
         true
+    }
+
+    fn read_row_together(&self, plane: u8, across: usize, down: usize) -> Option<[u8; 8]> {
+        let at = eight_at(self.size, plane, across, down)?;
+        Some(eight_from(&self.memory, at))
+    }
+
+    fn write_row_together(
+        &mut self,
+        plane: u8,
+        across: usize,
+        down: usize,
+        values: &[u8; 8],
+    ) -> bool {
+        let Some(at) = eight_at(self.size, plane, across, down) else {
+            return false;
+        };
+        set_eight_from(&mut self.memory, at, values);
+        true
+    }
+
+    fn read_together(&self, plane: u8, across: usize, down: usize) -> Option<[u8; 64]> {
+        let (at, stride) = rows_at(self.size, plane, across, down)?;
+        Some(square_from(&self.memory, at, stride))
+    }
+
+    fn write_together(&mut self, plane: u8, across: usize, down: usize, values: &[u8; 64]) -> bool {
+        set_square(&mut self.memory, self.size, plane, across, down, values)
     }
 
     // The rest of the row at once where the other store has the same size.

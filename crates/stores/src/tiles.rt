@@ -1,6 +1,7 @@
-ghost use Rattle.std.specs.Prelude.{◌<◌, IfSome};
+ghost use Rattle.std.specs.Prelude.{◌≡◌, ◌+◌, ◌*◌, ◌%◌, ◌<◌, ◌≤◌, true, IfSome, length};
+ghost use Rattle.pictures.specs.Pictures.{inside, painted_square};
 ghost use Rattle.stores.specs.Room.{Placed};
-ghost use Rattle.stores.specs.Tiles.{WordAt, tile_address, tiles_seen};
+ghost use Rattle.stores.specs.Tiles.{SquareAt, WordAt, tile_address, tiles_seen};
 ghost use Rattle.std.proofs.Common.{rules};
 
 use crate::cells::CellStore;
@@ -33,6 +34,56 @@ fn word_at(size: Size, plane: u8, across: usize, down: usize, right: usize) -> O
     Some(place(size, plane, across, down)? / 4)
 }
 
+// The word that begins at a place inside.
+fn word_inside(size: Size, plane: u8, across: usize, down: usize) -> usize
+    requires begins { across % 4 ≡ 0 }
+    requires small { across ≤ 65600 }
+    requires inside { inside size.columns size.rows plane across down ≡ true }
+    ensures { WordAt size.columns size.rows plane across down (across + 4) result }
+{
+    match place(size, plane, across, down) {
+        Some(at) => at / 4,
+        None => unreachable(),
+    }
+}
+
+// Whether a square of 8 by 8 samples lies inside and words begin at its left side.
+fn is_of_words(size: Size, plane: u8, across: usize, down: usize) -> bool
+    requires columns { across ≤ 65535 }
+    requires rows { down ≤ 65535 }
+    ensures { result ≡ true → SquareAt size.columns size.rows plane across down }
+{
+    across % 4 == 0
+        && size.is_inside(plane, across, down)
+        && size.is_inside(plane, across + 7, down + 7)
+}
+
+// Sets a square of 8 by 8 samples that lies inside and at whose left side words begin.
+fn set_square(
+    words: &mut [u32],
+    size: Size,
+    plane: u8,
+    across: usize,
+    down: usize,
+    values: &[u8; 64],
+)
+    requires columns { across ≤ 65535 }
+    requires rows { down ≤ 65535 }
+    requires square { SquareAt size.columns size.rows plane across down }
+    requires room { size.columns * size.rows * 96 ≤ length words.old }
+    ensures { let seen = tiles_seen size.columns size.rows in seen words.new ≡ painted_square (seen words.old) plane across down values.now }
+{
+    for n in 0..16 {
+        let word = word_inside(size, plane, across + n % 2 * 4, down + n / 2);
+        words[word] = u32::from_be_bytes([
+            values[4 * n],
+            values[4 * n + 1],
+            values[4 * n + 2],
+            values[4 * n + 3],
+        ]);
+    }
+}
+
 impl Store for TileStore {
     ghost picture = { λ s. tiles_seen s.size.columns s.size.rows s.memory.items };
 
@@ -61,6 +112,14 @@ impl Store for TileStore {
         let mut four = self.memory[at / 4].to_be_bytes();
         four[at % 4] = value;
         self.memory[at / 4] = u32::from_be_bytes(four);
+        true
+    }
+
+    fn write_together(&mut self, plane: u8, across: usize, down: usize, values: &[u8; 64]) -> bool {
+        if !is_of_words(self.size, plane, across, down) {
+            return false;
+        }
+        set_square(&mut self.memory, self.size, plane, across, down, values);
         true
     }
 

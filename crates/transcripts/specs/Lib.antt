@@ -1,3 +1,5 @@
 pub mod Answers
 pub mod Sums
+pub mod Macroblocks
 pub mod Tallies
+pub mod Told

@@ -1,6 +1,8 @@
 -- Sums of 32 bits.
-use Rattle.std.specs.Prelude.{ℕ, zero, suc, ◌*◌, ◌%◌, ◌^◌, List, bit_xor, fold}
+use Rattle.std.specs.Prelude.{ℕ, zero, suc, ◌-◌, ◌*◌, ◌%◌, ◌^◌, Bool, false, List, ◌++◌, length, replicate, bit_xor, fold, codes}
+use Rattle.std.specs.Fmt.{digits}
 use Rattle.pictures.specs.Pictures.{Picture, side}
+use Rattle.transcripts.specs.declared.sums.PictureSums.{PictureSums}
 
 abbrev pub sum_more : ℕ → ℕ → ℕ
 sum_more sum byte = (bit_xor sum byte * 16777619) % 2 ^ 32
@@ -21,3 +23,11 @@ rows_sum sample width (suc down) = row_sum sample down width (rows_sum sample wi
 
 abbrev pub plane_sum : Picture → ℕ → ℕ
 plane_sum f plane = rows_sum (f.sample plane) (f.wide * side plane) (f.high * side plane)
+
+-- eight hexadecimal digits, with zeros (48) before those of the number
+abbrev pub eight_digits : ℕ → List ℕ
+eight_digits n = replicate (8 - length (digits 16 false n)) 48 ++ digits 16 false n
+
+-- the line of a picture
+abbrev pub sums_text : PictureSums → List ℕ
+sums_text s = codes "picture " ++ (eight_digits s.luma ++ (codes " " ++ (eight_digits s.cb ++ (codes " " ++ (eight_digits s.cr ++ (codes " ages " ++ eight_digits s.ages))))))

@@ -1,7 +1,7 @@
 // The answer to a call, as the text of a line.
 ghost use Rattle.std.specs.Prelude.{◌≡◌, Some};
 ghost use Rattle.calls.specs.Runs.{call_of};
-ghost use Rattle.transcripts.specs.Answers.{answer_text, word_for, word_text};
+ghost use Rattle.transcripts.specs.Answers.{ages_text, answer_text, later_ages, mistake_text, misread_text, word_for, word_text};
 
 use calls::answers::{Answer, Call};
 use script::line::Mistake;
@@ -83,6 +83,22 @@ impl fmt::Display for Answered {
     }
 }
 
+// What is wrong with a line, in words.
+fn words_for(mistake: Mistake) -> &'static str
+    ensures { result.now ≡ mistake_text mistake }
+{
+    match mistake {
+        Mistake::Call => "no such call",
+        Mistake::Store => "the store is bytes or tiles",
+        Mistake::Transform => "the transform is two-pass or direct",
+        Mistake::Number => "a decimal number below 4294967296 is due",
+        Mistake::Kind => "the kind is 0 (INTRA) or 1 (INTER)",
+        Mistake::Macroblocks => "the number of macroblocks is a decimal number below 4294967296",
+        Mistake::Bytes => "bytes are pairs of hexadecimal digits, or - for none",
+        Mistake::Fields => "too many fields",
+    }
+}
+
 // A line of the script that is no call, by its number from 1 on.
 #[derive(Clone, Copy)]
 pub struct Misread {
@@ -91,10 +107,29 @@ pub struct Misread {
 }
 
 impl fmt::Display for Misread {
+    ghost output = { λ m. Some (misread_text m.line m.mistake) };
+
     fn fmt<W: fmt::Write>(&self, f: &mut fmt::Formatter<W>) -> fmt::Result {
         let line = self.line;
-        let mistake = self.mistake;
-        write!(f, "error {line}: {mistake}")
+        let words = words_for(self.mistake);
+        write!(f, "error {line}: {words}")
+    }
+}
+
+// The ages of a row after the first, each after a space.
+#[derive(Clone, Copy)]
+struct LaterAges<'a> {
+    ages: &'a [u8],
+}
+
+impl fmt::Display for LaterAges<'_> {
+    ghost output = { λ later. Some (later_ages later.ages.now) };
+
+    fn fmt<W: fmt::Write>(&self, f: &mut fmt::Formatter<W>) -> fmt::Result {
+        for age in self.ages {
+            write!(f, " {age}")?;
+        }
+        Ok(())
     }
 }
 
@@ -105,14 +140,13 @@ pub struct AgeRow<'a> {
 }
 
 impl fmt::Display for AgeRow<'_> {
+    ghost output = { λ row. Some (ages_text row.ages.now) };
+
     fn fmt<W: fmt::Write>(&self, f: &mut fmt::Formatter<W>) -> fmt::Result {
-        let [first, rest @ ..] = self.ages else {
+        let [first, ages @ ..] = self.ages else {
             return Ok(());
         };
-        write!(f, "{first}")?;
-        for age in rest {
-            write!(f, " {age}")?;
-        }
-        Ok(())
+        let later = LaterAges { ages };
+        write!(f, "{first}{later}")
     }
 }

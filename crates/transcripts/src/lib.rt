@@ -3,5 +3,6 @@
 #![tactic(auto)]
 
 pub mod answers;
+pub mod macroblocks;
 pub mod sums;
 pub mod transcript;

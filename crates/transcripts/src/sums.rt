@@ -1,6 +1,6 @@
 // Sums of 32 bits over bytes: the Fowler-Noll-Vo sum that takes a byte in before it multiplies.
-ghost use Rattle.std.specs.Prelude.{◌≡◌};
-ghost use Rattle.transcripts.specs.Sums.{plane_sum, row_sum, sum_more, sum_of};
+ghost use Rattle.std.specs.Prelude.{◌≡◌, Some};
+ghost use Rattle.transcripts.specs.Sums.{eight_digits, plane_sum, row_sum, sum_more, sum_of, sums_text};
 
 use pictures::{Store, side_of};
 use std::fmt;
@@ -48,6 +48,21 @@ pub fn sum_plane<S: Store>(store: &S, plane: u8) -> u32
     sum
 }
 
+// A sum in eight hexadecimal digits.
+#[derive(Clone, Copy)]
+struct Digits {
+    sum: u32,
+}
+
+impl fmt::Display for Digits {
+    ghost output = { λ d. Some (eight_digits d.sum) };
+
+    fn fmt<W: fmt::Write>(&self, f: &mut fmt::Formatter<W>) -> fmt::Result {
+        let sum = self.sum;
+        write!(f, "{sum:08x}")
+    }
+}
+
 // The sums of a finished picture's planes and of its ages.
 #[derive(Clone, Copy)]
 pub struct PictureSums {
@@ -58,8 +73,13 @@ pub struct PictureSums {
 }
 
 impl fmt::Display for PictureSums {
+    ghost output = { λ sums. Some (sums_text sums) };
+
     fn fmt<W: fmt::Write>(&self, f: &mut fmt::Formatter<W>) -> fmt::Result {
-        let PictureSums { luma, cb, cr, ages } = *self;
-        write!(f, "picture {luma:08x} {cb:08x} {cr:08x} ages {ages:08x}")
+        let luma = Digits { sum: self.luma };
+        let cb = Digits { sum: self.cb };
+        let cr = Digits { sum: self.cr };
+        let ages = Digits { sum: self.ages };
+        write!(f, "picture {luma} {cb} {cr} ages {ages}")
     }
 }

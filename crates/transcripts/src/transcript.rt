@@ -1,10 +1,11 @@
 // The text of a script's answers, and the count of its calls.
-ghost use Rattle.std.specs.Prelude.{◌≡◌, ℕ, [], ◌∷◌, ◌++◌, IfSome, IsSome, Some, None, string_bytes, codes};
+ghost use Rattle.std.specs.Prelude.{◌≡◌, ℕ, List, [], ◌∷◌, ◌++◌, IfSome, IsSome, Some, None, string_bytes, codes};
 ghost use Rattle.std.specs.Option.{option_map};
 ghost use Rattle.std.specs.Result.{result_ok};
 ghost use Rattle.std.specs.Fmt.{option_append};
-ghost use Rattle.transcripts.specs.Answers.{Grown, answer_text, done_text, word_text};
+ghost use Rattle.transcripts.specs.Answers.{Grown, done_text};
 ghost use Rattle.transcripts.specs.Tallies.{is_refused, one_more, one_more_if};
+ghost use Rattle.transcripts.specs.Told.{Tells, accepted, answered, told_by, with_line};
 
 use crate::answers::{Answered, Word};
 use calls::answers::Answer;
@@ -54,8 +55,8 @@ impl Transcript {
         self.text = None;
     }
 
-    // Adds a line.
-    pub fn add<D: fmt::Display + Drop>(&mut self, line: D)
+    // Adds to the text.
+    fn push<D: fmt::Display + Drop>(&mut self, line: D)
         ensures calls { self.new.calls ≡ self.old.calls }
         ensures refused { self.new.refused ≡ self.old.refused }
         ensures short { IsSome self.new.text → IsSome self.old.text }
@@ -65,6 +66,15 @@ impl Transcript {
             Some(text) => with_line(text, line),
             None => None,
         };
+    }
+
+    // Adds a line.
+    pub fn add<D: fmt::Display + Drop>(&mut self, line: D)
+        ensures calls { self.new.calls ≡ self.old.calls }
+        ensures refused { self.new.refused ≡ self.old.refused }
+        ensures told { (text : List ℕ) → D.Display.output line ≡ Some text → Tells (with_line text) self.old self.new }
+    {
+        self.push(line);
     }
 
     // Counts a call, and whether it was refused.
@@ -83,7 +93,7 @@ impl Transcript {
     pub fn answer(&mut self, word: Word, answer: Answer)
         ensures calls { self.new.calls ≡ one_more self.old.calls }
         ensures refused { self.new.refused ≡ one_more_if (is_refused answer) self.old.refused }
-        ensures text { Grown self.old.text self.new.text (answer_text word answer) }
+        ensures told { Tells (answered word answer) self.old self.new }
     {
         self.count(is_refused(answer));
         self.add(Answered { word, answer });
@@ -93,7 +103,7 @@ impl Transcript {
     pub fn accept(&mut self, word: Word)
         ensures calls { self.new.calls ≡ one_more self.old.calls }
         ensures refused { self.new.refused ≡ self.old.refused }
-        ensures text { Grown self.old.text self.new.text (word_text word ++ codes " ok") }
+        ensures told { Tells (accepted word) self.old self.new }
     {
         self.count(false);
         self.add(format_args!("{word} ok"));
@@ -105,7 +115,7 @@ impl Transcript {
     {
         let calls = self.calls;
         let refused = self.refused;
-        self.add(format_args!("done {calls} calls, {refused} refused"));
+        self.push(format_args!("done {calls} calls, {refused} refused"));
         self.text.ok_or(AllocError)
     }
 }

@@ -3,6 +3,7 @@ pub mod Table
 pub mod Sizes
 pub mod Rows
 pub mod Fill
+pub mod Columns
 pub mod Composed
 pub mod Positions
 pub mod Quantized

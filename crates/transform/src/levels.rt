@@ -1,31 +1,31 @@
 // From the levels of a block, by zigzag position, to its coefficients, by place.
-ghost use Rattle.std.specs.Prelude.{◌≡◌, ◌<◌, pos, negsuc, ◌≤ℤ◌};
+ghost use Rattle.std.specs.Prelude.{◌≡◌, ◌+◌, ◌<◌, ◌≤◌, true, pos, negsuc, ◌≤ℤ◌};
 ghost use Rattle.transform.specs.Blocks.{Gives};
-ghost use Rattle.transform.specs.Coefficients.{block_coefficients, from_level};
+ghost use Rattle.transform.specs.Coefficients.{AllZero, Placed, block_coefficients, from_level};
 ghost use Rattle.transform.specs.Inverse.{limited};
 ghost use Rattle.transform.specs.Levels.{dequantized, first_coefficient, rebuilt_size};
 ghost use Rattle.transform.specs.Signs.{with_sign};
 ghost use Rattle.transform.specs.Zigzag.{position_of};
 
-// The zigzag position of each place of a block, by rows.
-const POSITIONS: [[u8; 8]; 8] = [
-    [0, 1, 5, 6, 14, 15, 27, 28],
-    [2, 4, 7, 13, 16, 26, 29, 42],
-    [3, 8, 12, 17, 25, 30, 41, 43],
-    [9, 11, 18, 24, 31, 40, 44, 53],
-    [10, 19, 23, 32, 39, 45, 52, 54],
-    [20, 22, 33, 38, 46, 51, 55, 60],
-    [21, 34, 37, 47, 50, 56, 59, 61],
-    [35, 36, 48, 49, 57, 58, 62, 63],
+// The place of each zigzag position, by eights.
+const PLACES: [[u8; 8]; 8] = [
+    [0, 1, 8, 16, 9, 2, 3, 10],
+    [17, 24, 32, 25, 18, 11, 4, 5],
+    [12, 19, 26, 33, 40, 48, 41, 34],
+    [27, 20, 13, 6, 7, 14, 21, 28],
+    [35, 42, 49, 56, 57, 50, 43, 36],
+    [29, 22, 15, 23, 30, 37, 44, 51],
+    [58, 59, 52, 45, 38, 31, 39, 46],
+    [53, 60, 61, 54, 47, 55, 62, 63],
 ];
 
-// place < 64 stays a condition: to go over the table's rows instead would need a flat table, which the formatter puts one number to a line
-fn position(place: usize) -> usize
-    requires { place < 64 }
-    ensures value { result ≡ position_of place }
+// position < 64 stays a condition: to go over the table's rows instead would need a flat table, which the formatter puts one number to a line
+fn place(position: usize) -> usize
+    requires { position < 64 }
+    ensures value { position_of result ≡ position }
     ensures inside { result < 64 }
 {
-    usize::from(POSITIONS[place / 8][place % 8])
+    usize::from(PLACES[position / 8][position % 8])
 }
 
 // The size of the coefficient for a level of this size.
@@ -77,13 +77,44 @@ pub fn first_coefficient(code: u8) -> i16
     }
 }
 
-// The coefficients of the levels at all positions, by place. (A loop: by `array::from_fn` what it ensures stayed open.)
+// Whether the levels at the eight positions from here on are 0. (Each is looked at, with `&`: this is one comparison of eight bytes then.)
+fn are_zero(levels: &[i8; 64], first: usize) -> bool
+    requires { first ≤ 56 }
+    ensures { result ≡ true → AllZero levels.now first (first + 8) }
+{
+    (levels[first] == 0)
+        & (levels[first + 1] == 0)
+        & (levels[first + 2] == 0)
+        & (levels[first + 3] == 0)
+        & (levels[first + 4] == 0)
+        & (levels[first + 5] == 0)
+        & (levels[first + 6] == 0)
+        & (levels[first + 7] == 0)
+}
+
+// Sets the coefficients for the levels at the eight positions from here on, where those before are set and the others are 0.
+fn set_eight(out: &mut [i16; 64], quantizer: u8, levels: &[i8; 64], first: usize)
+    requires room { first ≤ 56 }
+    requires before { Placed quantizer levels.now first out.old }
+    ensures { Placed quantizer levels.now (first + 8) out.new }
+{
+    for position in first..first + 8 {
+        let level = levels[position];
+        if level != 0 {
+            out[place(position)] = dequantize(quantizer, level);
+        }
+    }
+}
+
+// The coefficients of the levels at all positions, by place: 0 for a level of 0, as most are. (A loop: by `array::from_fn` what it ensures stayed open.)
 fn from_levels(quantizer: u8, levels: &[i8; 64]) -> [i16; 64]
     ensures { Gives result (from_level quantizer levels.now) }
 {
     let mut out = [0; 64];
-    for (place, coefficient) in out.iter_mut().enumerate() {
-        *coefficient = dequantize(quantizer, levels[position(place)]);
+    for eight in 0..8 {
+        if !are_zero(levels, 8 * eight) {
+            set_eight(&mut out, quantizer, levels, 8 * eight);
+        }
     }
     out
 }

@@ -1,11 +1,11 @@
 // Inverse transforms of blocks of 8 by 8 coefficients, and what all of them have in common.
 #![tactic(auto)]
 
-ghost use Rattle.std.specs.Prelude.{◌≡◌, ℕ, ◌+◌, ◌*◌, ◌^◌, ◌<◌, List, map, ℤ, pos, negsuc, ◌≤ℤ◌, ◌+ℤ◌, slice_index_or, unsigned_abs};
+ghost use Rattle.std.specs.Prelude.{◌≡◌, ℕ, ◌+◌, ◌-◌, ◌*◌, ◌/◌, ◌%◌, ◌^◌, ◌<◌, ◌≤◌, ◌==◌, true, cond, List, map, ℤ, pos, negsuc, ◌≤ℤ◌, ◌+ℤ◌, slice_index_or, unsigned_abs};
 ghost use Rattle.transform.specs.Blocks.{Everywhere, Gives, Shows};
 ghost use Rattle.transform.specs.Factors.{cosine};
 ghost use Rattle.transform.specs.Inverse.{direct, limited, once, ranged, twice, two_pass};
-ghost use Rattle.transform.specs.Passes.{Small, weighed, passed};
+ghost use Rattle.transform.specs.Passes.{Row, Small, SmallRow, ZeroAt, half_sum, passed, rounded_sum, row_sum, term};
 ghost use Rattle.transform.specs.Sums.{floor};
 ghost use Rattle.transform.specs.Laws.{ranged_range, twice_zeros, twice_ends, once_zeros, once_ends};
 ghost use Rattle.std.proofs.Common.{arith};
@@ -46,15 +46,17 @@ impl RoundedShift {
         RoundedShift { half, shift }
     }
 
-    fn of(self, sum: i64) -> i64
-        requires { unsigned_abs sum < 2 ^ 62 }
+    // (Sums have 64 bits; what a pass leaves of them fits 32.)
+    fn of(self, sum: i64) -> i32
+        requires small { unsigned_abs sum < 2 ^ 62 }
+        requires within { unsigned_abs sum ≤ 2147483647 * 2 ^ self.shift }
         ensures { result ≡ floor (sum +ℤ pos self.half) (2 ^ self.shift) }
     {
-        (sum + i64::from(self.half)) >> self.shift
+        ((sum + i64::from(self.half)) >> self.shift) as i32
     }
 }
 
-// (That both are below 8 is asked here and of the sum below alone; a type for such an index would be taken apart again at each use.)
+// (That both are below 8 is asked here and of the sums below alone; a type for such an index would be taken apart again at each use.)
 fn factor(u: usize, n: usize) -> i64
     requires { (u < 8) × (n < 8) }
     ensures { result ≡ cosine u n }
@@ -62,63 +64,155 @@ fn factor(u: usize, n: usize) -> i64
     FACTORS[u][n]
 }
 
-// The sum over u of the factor for u and n times the number u across and v down. (That the numbers are small is asked here and of the two functions around
-// it alone; a type for such blocks would be made of an array and taken apart again in each pass.)
-fn weigh(x: &[i64; 64], n: usize, v: usize) -> i64
-    requires across { n < 8 }
-    requires down { v < 8 }
-    requires small { Small (2 ^ 26) x.now }
-    ensures { result ≡ weighed x.now n v }
+// The term of a row's sum for u and n.
+fn term(x: &[i32; 8], u: usize, n: usize) -> i64
+    requires { (u < 8) × (n < 8) }
+    ensures value { result ≡ term x.now n u }
+    ensures small { unsigned_abs result < 2 ^ 43 }
 {
-    let mut sum = 0;
-    // a loop: with an iterator's `sum` it stayed open that each sum on the way fits
-    for u in 0..8 {
-        sum += factor(u, n) * x[8 * v + u];
-    }
-    sum
+    factor(u, n) * i64::from(x[u])
 }
 
-// What a pass makes of the place p: the sum of row p % 8 for p / 8 across.
-fn passed(x: &[i64; 64], quotient: RoundedShift, p: usize) -> i64
-    requires inside { p < 64 }
-    requires small { Small (2 ^ 26) x.now }
-    ensures { result ≡ passed x.now quotient.half (2 ^ quotient.shift) p }
+// The terms for every second u, from 0 or 1 on.
+fn half_sum(x: &[i32; 8], first: usize, n: usize) -> i64
+    requires { (first < 2) × (n < 8) }
+    ensures value { result ≡ half_sum x.now n first }
+    ensures small { unsigned_abs result < 2 ^ 45 }
 {
-    quotient.of(weigh(x, p / 8, p % 8))
+    term(x, first, n) + term(x, first + 2, n) + term(x, first + 4, n) + term(x, first + 6, n)
+}
+
+// The sums of a row for n and 7 - n across: the factors for odd u have their signs turned in the second.
+fn mirrored(x: &[i32; 8], n: usize) -> (i64, i64)
+    requires { n < 4 }
+    ensures near { result.0 ≡ row_sum x.now n }
+    ensures far { result.1 ≡ row_sum x.now (7 - n) }
+    ensures small { (unsigned_abs result.0 < 2 ^ 46) × (unsigned_abs result.1 < 2 ^ 46) }
+{
+    let even = half_sum(x, 0, n);
+    let odd = half_sum(x, 1, n);
+    (even + odd, even - odd)
+}
+
+// The sums of a row, rounded. (Inlined, so that where 0 is written into a row the products with it are left out.)
+#[inline(always)]
+fn whole_row(x: &[i32; 8], quotient: RoundedShift) -> [i32; 8]
+    requires small { SmallRow (2 ^ 17 * 2 ^ quotient.shift) x.now }
+    ensures { Row result (rounded_sum x.now quotient.half (2 ^ quotient.shift)) }
+{
+    let (a, h) = mirrored(x, 0);
+    let (b, g) = mirrored(x, 1);
+    let (c, f) = mirrored(x, 2);
+    let (d, e) = mirrored(x, 3);
+    [
+        quotient.of(a),
+        quotient.of(b),
+        quotient.of(c),
+        quotient.of(d),
+        quotient.of(e),
+        quotient.of(f),
+        quotient.of(g),
+        quotient.of(h),
+    ]
+}
+
+// Whether the second half of a row is 0.
+fn is_half_row(x: &[i32; 8]) -> bool
+    ensures { result ≡ true → ZeroAt x.now 4 × ZeroAt x.now 5 × ZeroAt x.now 6 × ZeroAt x.now 7 }
+{
+    x[4] == 0 && x[5] == 0 && x[6] == 0 && x[7] == 0
+}
+
+// Whether the first half of a row is 0 but for its first number.
+fn is_flat(x: &[i32; 8]) -> bool
+    ensures { result ≡ true → ZeroAt x.now 1 × ZeroAt x.now 2 × ZeroAt x.now 3 }
+{
+    x[1] == 0 && x[2] == 0 && x[3] == 0
+}
+
+// The same for a row of which only the first number is not 0: all eight sums are one.
+fn flat_row(x: &[i32; 8], quotient: RoundedShift) -> [i32; 8]
+    requires small { SmallRow (2 ^ 17 * 2 ^ quotient.shift) x.now }
+    requires flat { (u : ℕ) → 1 ≤ u → u < 8 → slice_index_or x.now u (pos 0) ≡ pos 0 }
+    ensures { Row result (rounded_sum x.now quotient.half (2 ^ quotient.shift)) }
+{
+    [quotient.of(term(x, 0, 0)); 8]
+}
+
+// The same with no work for the numbers that are 0, as most are.
+fn row(x: &[i32; 8], quotient: RoundedShift) -> [i32; 8]
+    requires small { SmallRow (2 ^ 17 * 2 ^ quotient.shift) x.now }
+    ensures { Row result (rounded_sum x.now quotient.half (2 ^ quotient.shift)) }
+{
+    if !is_half_row(x) {
+        whole_row(x, quotient)
+    } else if !is_flat(x) {
+        whole_row(&[x[0], x[1], x[2], x[3], 0, 0, 0, 0], quotient)
+    } else {
+        flat_row(x, quotient)
+    }
+}
+
+// The row v of a block.
+fn row_of(x: &[i32; 64], v: usize) -> [i32; 8]
+    requires { v < 8 }
+    ensures { Row result (λ u. slice_index_or x.now (8 * v + u) (pos 0)) }
+{
+    let at = 8 * v;
+    [
+        x[at],
+        x[at + 1],
+        x[at + 2],
+        x[at + 3],
+        x[at + 4],
+        x[at + 5],
+        x[at + 6],
+        x[at + 7],
+    ]
+}
+
+// Sets column v of a block.
+fn set_column(x: &mut [i32; 64], v: usize, column: [i32; 8])
+    requires { v < 8 }
+    ensures { Gives x.new (λ p. cond (p % 8 == v) (slice_index_or column (p / 8) (pos 0)) (slice_index_or x.old p (pos 0))) }
+{
+    for n in 0..8 {
+        x[8 * n + v] = column[n];
+    }
 }
 
 // Each row's eight sums, as a column of what is returned: two passes put each number back into its place.
-fn pass(x: &[i64; 64], quotient: RoundedShift) -> [i64; 64]
-    requires small { Small (2 ^ 26) x.now }
+fn pass(x: &[i32; 64], quotient: RoundedShift) -> [i32; 64]
+    requires small { Small (2 ^ 17 * 2 ^ quotient.shift) x.now }
     ensures { Gives result (passed x.now quotient.half (2 ^ quotient.shift)) }
 {
     let mut out = [0; 64];
-    // with `array::from_fn` here, and `map` in the two functions below, a block was measured to take 1.7 times the time
-    for (p, place) in out.iter_mut().enumerate() {
-        *place = passed(x, quotient, p);
+    for v in 0..8 {
+        set_column(&mut out, v, row(&row_of(x, v), quotient));
     }
     out
 }
 
 // The coefficients, each within its range.
-fn widened(coefficients: &[i16; 64]) -> [i64; 64]
+fn widened(coefficients: &[i16; 64]) -> [i32; 64]
     ensures { Gives result (λ p. limited (slice_index_or coefficients.now p (pos 0))) }
 {
     let mut out = [0; 64];
+    // with `map` here and in the function below, a block was measured to take 1.7 times the time
     for (p, place) in out.iter_mut().enumerate() {
-        *place = limit(i64::from(coefficients[p]));
+        *place = limit(i64::from(coefficients[p])) as i32;
     }
     out
 }
 
 // A result, brought into -256 to 255.
-fn narrow(x: i64) -> i16
+fn narrow(x: i32) -> i16
     ensures { result ≡ ranged x }
 {
     x.clamp(-256, 255) as i16
 }
 
-fn narrowed(results: &[i64; 64]) -> [i16; 64]
+fn narrowed(results: &[i32; 64]) -> [i16; 64]
     ensures { Gives result (λ p. ranged (slice_index_or results.now p (pos 0))) }
 {
     let mut out = [0; 64];
@@ -131,6 +225,7 @@ fn narrowed(results: &[i64; 64]) -> [i16; 64]
 // The results by a pass over the rows and one over the columns. Its callers' shifts are written numbers, and inlined it runs fewer instructions.
 #[inline(always)]
 fn in_two_passes(coefficients: &[i16; 64], rows: RoundedShift, columns: RoundedShift) -> [i16; 64]
+    requires { 8 ≤ columns.shift }
     ensures { Shows result (twice rows.half (2 ^ rows.shift) columns.half (2 ^ columns.shift) coefficients.now) }
 {
     narrowed(&pass(&pass(&widened(coefficients), rows), columns))

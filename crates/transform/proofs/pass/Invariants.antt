@@ -1,7 +1,8 @@
 use Rattle.std.proofs.Common.{◌^◌}
 use Rattle.transform.specs.Passes.{passed}
-use Rattle.transform.proofs.Fill.{Filled}
+use Rattle.transform.proofs.Columns.{Columns}
 use Rattle.transform.proofs.pass.Given as goal
 
-abbrev pub invariant-loop-p : goal.invariant-loop-p
-invariant-loop-p l = Filled (passed l.x l.quotient.half (2 ^ l.quotient.shift)) l.p l.place-items
+-- the columns before this one are set
+abbrev pub invariant-loop-v : goal.invariant-loop-v
+invariant-loop-v l = Columns (passed l.x l.quotient.half (2 ^ l.quotient.shift)) l.v l.out

@@ -1,22 +1,21 @@
-use Rattle.std.proofs.Common.{◌+◌, ◌*◌, Some, refl, arith}
-use Rattle.deblocking.specs.Edges.{edges, is_vertical, turn}
-use Rattle.deblocking.proofs.Edges.{then_smoothed, none_along, more_along, apart_along, says}
-use Rattle.pictures.proofs.Painting.{none}
+use Rattle.std.proofs.Common.{◌≡◌, ℕ, ◌+◌, ◌*◌, ◌/◌, Bool, Some, sym, ap, ◌∙◌, subst, arith}
+use Rattle.pictures.specs.Pictures.{painted, side}
+use Rattle.deblocking.specs.Edges.{edges, is_vertical, smoothed, turn}
+use Rattle.deblocking.proofs.Edges.{by_side}
 use Rattle.deblocking.proofs.Edge.smooth_pair.Goals as goal
 
-pub loop-place-init : goal.loop-place-init
-loop-place-init g c = none _ _ _ (none_along _ _ _ _)
-
-pub loop-place-preserved : goal.loop-place-preserved
-loop-place-preserved g c =
-    let t = is_vertical c.args.self.direction in
+pub returns-in-Horizontal : goal.returns-in-Horizontal
+returns-in-Horizontal g c =
     let p = c.args.self.plane in
-    let low = c.args.along * c.side_of-width.result in
     let n = c.args.self.number in
-    let x = c.loop-place.place in
-    then_smoothed (edges p low x n (n + 1)) (edges p x (x + 1) n (n + 1)) _ (λ _ _ _. Some c.args.quantizer) (λ _ _ _. Some c.args.quantizer)
-    (turn t (g.S.Store.picture c.args.store.now)) (turn t (g.S.Store.picture c.loop-place.store)) _
-    c.loop-place.invariant c.smooth_place.ensures
-    (λ q u v. more_along p low x (x + 1) n (n + 1) q u v c.loop-place.auto.place (omega arith))
-    (λ q u v j e m. apart_along p low x (x + 1) n q u v j e m)
-    (λ q u v e. let s = says p x (x + 1) n q u v e in (s.3, omega (arith, s.4), refl))
+    let a = c.args.along in
+    let k = λ (_ _ _ : ℕ). Some c.args.quantizer in
+    let f = g.S.Store.picture c.args.store.now in
+    let new = g.S.Store.picture c.smooth_eights.new.store in
+    let w = c.side_of-width.ensures in
+    let from = ap (λ s. a * s) w in
+    let to = ap (λ s. a * s + 8 * (s / 8)) w ∙ by_side (λ s. a * s + 8 * (s / 8) ≡ (a + 1) * s) p (omega arith) (omega arith) in
+    subst (λ (b : Bool). turn b new ≡ painted (edges p (a * side p) ((a + 1) * side p) n (n + 1)) (smoothed k (turn b f).sample) (turn b f))
+    (sym (ap is_vertical c.in-Horizontal.is))
+    (c.smooth_eights.ensures ∙ ap (λ m. painted (edges p m (a * c.side_of-width.result + 8 * (c.side_of-width.result / 8)) n (n + 1)) (smoothed k f.sample) f) from
+    ∙ ap (λ m. painted (edges p (a * side p) m n (n + 1)) (smoothed k f.sample) f) to)

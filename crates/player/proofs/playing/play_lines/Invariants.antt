@@ -1,6 +1,5 @@
-use Rattle.std.proofs.Common.{◌≤◌}
+use Rattle.player.proofs.Onward.{PlayedTo}
 use Rattle.player.proofs.playing.play_lines.Given as goal
 
--- what is gathered stands before the line
 abbrev pub invariant-loop-index : goal.invariant-loop-index
-invariant-loop-index l = l.first ≤ l.index
+invariant-loop-index l = PlayedTo l.lines l.initial.seat l.initial.choices l.initial.transcript l.first l.index l.seat l.choices l.transcript

@@ -1,14 +1,24 @@
-use Rattle.std.proofs.Common.{get_or, pos, ap, ◌∙◌, to_z-of_z, w8, w16, SFits, rules}
-use Rattle.transform.specs.Levels.{dequantized}
-use Rattle.transform.specs.Coefficients.{from_level}
-use Rattle.transform.proofs.Fill.{fill_step}
+use Rattle.std.proofs.Common.{◌≡◌, ℕ, ◌+◌, ◌*◌, pos, replicate, sym, subst, arith}
+use Rattle.std.proofs.lemmas.List.{get_or-replicate}
+use Rattle.transform.specs.Coefficients.{Placed}
+use Rattle.transform.proofs.Positions.{placed_all, placed_none, placed_past}
 use Rattle.transform.proofs.levels.from_levels.Goals as goal
+use Rattle.transform.proofs.levels.from_levels.Goals.{then-not-are_zero, else-not-are_zero}
 
-pub loop-place-preserved : goal.loop-place-preserved
-unfolding from_level
-loop-place-preserved c =
-    let read : SFits w8 (get_or c.args.levels.now c.position.result (pos 0)) = search rules in
-    fill_step (from_level c.args.quantizer c.args.levels.now) c.loop-place.place c.loop-place.coefficient-items _ c.loop-place-test.true
-    (to_z-of_z {w = w16} (record { sfits = c.dequantize.type_inv }) ∙ c.dequantize.ensures
-    ∙ ap (dequantized c.args.quantizer) (to_z-of_z read ∙ ap (λ p. get_or c.args.levels.now p (pos 0)) c.position.ensures.value))
-    c.loop-place.invariant
+pub loop-eight-init : goal.loop-eight-init
+loop-eight-init c = placed_none c.args.quantizer c.args.levels.now (replicate 64 (pos 0)) (λ p h. get_or-replicate 64 p (pos 0) (pos 0) h)
+
+pub loop-eight-preserved : goal.loop-eight-preserved
+loop-eight-preserved c =
+    let q = c.args.quantizer in
+    let levels = c.args.levels.now in
+    let n = 8 * c.loop-eight.eight in
+    let e : n + 8 ≡ 8 * (c.loop-eight.eight + 1) = omega arith in
+    subst (λ (m : ℕ). Placed q levels m c.if-not-are_zero.out) e
+    (elim c.if-not-are_zero.branch [
+      | then-not-are_zero w ↦ subst (Placed q levels (n + 8)) (sym w.out-is) w.set_eight.ensures
+      | else-not-are_zero w ↦ subst (Placed q levels (n + 8)) (sym w.out-is) (placed_past q levels c.loop-eight.out n (n + 8) (c.are_zero.ensures w.if-not-are_zero.false) (omega arith) c.loop-eight.invariant)
+    ])
+
+pub returns : goal.returns
+returns c = placed_all c.args.quantizer c.args.levels.now c.loop-eight.out (8 * c.loop-eight.eight) (omega arith) c.loop-eight.invariant

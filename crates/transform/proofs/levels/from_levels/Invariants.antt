@@ -1,6 +1,6 @@
-use Rattle.transform.specs.Coefficients.{from_level}
-use Rattle.transform.proofs.Fill.{Filled}
+use Rattle.std.proofs.Common.{◌*◌}
+use Rattle.transform.specs.Coefficients.{Placed}
 use Rattle.transform.proofs.levels.from_levels.Given as goal
 
-abbrev pub invariant-loop-place : goal.invariant-loop-place
-invariant-loop-place l = Filled (from_level l.quantizer l.levels) l.place l.coefficient-items
+abbrev pub invariant-loop-eight : goal.invariant-loop-eight
+invariant-loop-eight l = Placed l.quantizer l.levels (8 * l.eight) l.out

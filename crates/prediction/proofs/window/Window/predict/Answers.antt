@@ -1,23 +1,7 @@
-use Rattle.std.proofs.Common.{◌≡◌, ℕ, Bool, ℤ, pos, ◌+ℤ◌, sym, ap, ◌∙◌, w8, SFits, to_z, of_z}
-use Rattle.std.proofs.lemmas.Int.{to_z-of_z}
-use Rattle.samples.specs.Prediction.{between_four, between_two, rounding_of}
-use Rattle.transform.specs.Sums.{floor}
-use Rattle.prediction.specs.Window.{is_half}
-use Rattle.prediction.proofs.Steps.{half_across, half_both, half_down, no_half}
+use Rattle.std.proofs.Common.{◌∙◌}
+use Rattle.samples.specs.Prediction.{rounding_of}
+use Rattle.prediction.proofs.Steps.{four_same, half_across, half_both, half_down, halved, led, no_half, two_same}
 use Rattle.prediction.proofs.window.Window.predict.Goals as goal
-
--- what a callee says of a component that was passed on
-led : (z : ℤ) (x u : ℕ) → SFits w8 z → pos u ≡ pos x +ℤ floor (to_z w8 (of_z w8 z)) 2 +ℤ pos 64 → pos u ≡ pos x +ℤ floor z 2 +ℤ pos 64
-led z x u f e = e ∙ ap (λ w. pos x +ℤ floor w 2 +ℤ pos 64) (to_z-of_z w8 z f)
-
-halved : (z : ℤ) (b : Bool) → SFits w8 z → b ≡ is_half (to_z w8 (of_z w8 z)) → is_half z ≡ b
-halved z b f e = sym (e ∙ ap is_half (to_z-of_z w8 z f))
-
-two_same : (r a b x y : ℕ) → a ≡ x → b ≡ y → between_two r a b ≡ between_two r x y
-two_same r a b x y e f = rw (e, f)
-
-four_same : (r a b c d w x y z : ℕ) → a ≡ w → b ≡ x → c ≡ y → d ≡ z → between_four r a b c d ≡ between_four r w x y z
-four_same r a b c d w x y z e f g h = rw (e, f, g, h)
 
 pub returns-in-false-false : goal.returns-in-false-false
 returns-in-false-false g c =

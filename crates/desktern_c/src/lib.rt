@@ -1,0 +1,149 @@
+// Desktern for C: each export makes one call on a reel and tells its answer in numbers. Relies on `seats` for the calls. Only a new reel allocates, and only
+// giving it back frees.
+#![tactic(auto)]
+
+ghost use Rattle.std.specs.Prelude.{◌≡◌, None, length};
+ghost use Rattle.std.specs.Borrow.{sem};
+ghost use Rattle.calls.specs.Runs.{asking_age, asking_sample, closing, delivering, opening};
+ghost use Rattle.pictures.specs.Formats.{numbered};
+ghost use Rattle.handles.specs.Handles.{Answered, ages_at, finished_at, handle_owned};
+ghost use Rattle.seats.specs.Copies.{laid_over, plane_samples, plane_size};
+ghost use Rattle.handles.specs.Begun.{Begun};
+ghost use Rattle.handles.specs.declared.handle.ReelHandle.{ReelHandle as Handle};
+
+use calls::answers::Call;
+use handles::answer::AnswerNumbers;
+use handles::begin::begin;
+use handles::calling::release;
+use handles::handle::ReelHandle;
+use handles::loose::Loose;
+use handles::slot::ReelSlot;
+use std::alloc::Global;
+
+// Begins a reel, and puts its pointer where `reel` points. Refused, or without memory, it leaves that place as it was. (That nothing is held there before is
+// asked so that nothing is lost: of a place that C did not fill it holds.)
+#[unsafe(no_mangle)]
+pub extern "C" fn desktern_new(
+    heap: Global,
+    format: u32,
+    store: u32,
+    transform: u32,
+    reel: &mut ReelSlot,
+    answer: &mut AnswerNumbers,
+)
+    requires { reel.old.held ≡ None }
+    ensures begun { Begun (numbered format) transform reel.new.held answer.new }
+    ensures left { reel.new.held ≡ None → reel.new ≡ reel.old }
+{
+    match begin(heap, format, store, transform) {
+        Ok(loose) => {
+            *reel = ReelSlot::of(loose);
+            *answer = AnswerNumbers::accepted(0, 0);
+        }
+        Err(told) => {
+            *answer = told;
+        }
+    }
+}
+
+// Gives a reel's memory back. A picture that is open is closed first, since a slip has to be handed in.
+#[unsafe(no_mangle)]
+pub unsafe extern "C" fn desktern_free(heap: Global, reel: *mut ReelHandle)
+    ghost held: { Handle }
+    requires* { sem 𝓛 (handle_owned reel held) }
+{
+    release(Loose {
+        at: reel,
+        alloc: heap,
+    });
+}
+
+// Opens a picture.
+#[unsafe(no_mangle)]
+pub extern "C" fn desktern_open(
+    reel: &mut ReelHandle,
+    kind: u32,
+    rounding: u32,
+    layout: u32,
+    answer: &mut AnswerNumbers,
+)
+    ensures { Answered reel.old (opening kind rounding layout) reel.new answer.new }
+{
+    *answer = reel.step(&Call::Open {
+        kind,
+        rounding,
+        layout,
+    });
+}
+
+// Delivers a segment of the open picture.
+#[unsafe(no_mangle)]
+pub extern "C" fn desktern_deliver(
+    reel: &mut ReelHandle,
+    segment: u32,
+    bytes: &[u8],
+    answer: &mut AnswerNumbers,
+)
+    ensures { Answered reel.old (delivering segment bytes.now) reel.new answer.new }
+{
+    *answer = reel.step(&Call::Deliver { segment, bytes });
+}
+
+// Closes the open picture.
+#[unsafe(no_mangle)]
+pub extern "C" fn desktern_close(reel: &mut ReelHandle, answer: &mut AnswerNumbers)
+    ensures { Answered reel.old closing reel.new answer.new }
+{
+    *answer = reel.step(&Call::Close);
+}
+
+// Asks for a sample of the finished picture.
+#[unsafe(no_mangle)]
+pub extern "C" fn desktern_sample(
+    reel: &mut ReelHandle,
+    plane: u32,
+    across: u32,
+    down: u32,
+    answer: &mut AnswerNumbers,
+)
+    ensures { Answered reel.old (asking_sample plane across down) reel.new answer.new }
+{
+    *answer = reel.step(&Call::Sample {
+        plane,
+        across,
+        down,
+    });
+}
+
+// Asks for an age of the finished picture.
+#[unsafe(no_mangle)]
+pub extern "C" fn desktern_age(
+    reel: &mut ReelHandle,
+    column: u32,
+    row: u32,
+    answer: &mut AnswerNumbers,
+)
+    ensures { Answered reel.old (asking_age column row) reel.new answer.new }
+{
+    *answer = reel.step(&Call::Age { column, row });
+}
+
+// Copies a plane of the finished picture, row by row from the top, and tells how many samples it has. A shorter buffer stays as it is.
+#[unsafe(no_mangle)]
+pub extern "C" fn desktern_plane(reel: &mut ReelHandle, plane: u32, samples: &mut [u8]) -> usize
+    ensures size { result ≡ plane_size (finished_at reel.old) plane }
+    ensures samples { samples.new ≡ laid_over (plane_size (finished_at reel.old) plane) (plane_samples (finished_at reel.old) plane) samples.old }
+    ensures reel { reel.new ≡ reel.old }
+{
+    reel.copy_plane(plane, samples)
+}
+
+// Copies the ages of the finished picture in raster order, in the same way.
+#[unsafe(no_mangle)]
+pub extern "C" fn desktern_ages(reel: &mut ReelHandle, ages: &mut [u8]) -> usize
+    ensures size { result ≡ length (ages_at reel.old) }
+    ensures ages { ages.new ≡ laid_over (length (ages_at reel.old)) (ages_at reel.old) ages.old }
+    ensures reel { reel.new ≡ reel.old }
+{
+    reel.copy_ages(ages)
+}

@@ -1,0 +1,54 @@
+-- What C holds of a reel, and one call on it.
+use Rattle.std.specs.Prelude.{◌≡◌, ℕ, List, Some, None, Option}
+use Rattle.std.specs.Borrow.{Lends, MutBor}
+use Rattle.std.specs.Box.Ownership.{box_owns}
+use Rattle.std.specs.contracts.impls.GlobalAllocator.TheImpl.{ghosts as allocator}
+use base.Fml.{Fml, ftrue}
+use denote.RawPtr.{Ptr}
+use Rattle.pictures.specs.Pictures.{Picture}
+use Rattle.calls.specs.Runs.{Calling, reply, Setting, State, step}
+use Rattle.seats.specs.Steps.{setting_in, state_in}
+use Rattle.handles.specs.declared.answer.AnswerNumbers.{AnswerNumbers}
+use Rattle.handles.specs.declared.handle.ReelHandle.{ReelHandle}
+use Rattle.handles.specs.contracts.handle.ReelHandle.{the_row as handle_row}
+use Rattle.handles.specs.declared.kept.KeptReel.{KeptReel}
+use Rattle.handles.specs.contracts.kept.KeptReel.{the_row as kept_row}
+use Rattle.handles.specs.Numbers.{numbers_of}
+
+-- a handle lies there, with all that it owns, and its block may be freed
+abbrev pub handle_owned : Ptr → ReelHandle → Fml
+handle_owned p h = box_owns (allocator.dealloc_token h.alloc) handle_row p h
+
+-- what a place for a pointer owns: nothing where nothing is held
+abbrev pub slot_owns : Ptr → Option ReelHandle → Fml
+slot_owns p None = ftrue
+slot_owns p (Some h) = handle_owned p h
+
+-- the handle with another reel behind it
+abbrev pub with_kept : ReelHandle → KeptReel → ReelHandle
+with_kept h k = record { at = h.at; alloc = h.alloc; kept = k }
+
+-- the handle ends with the last reel behind r
+abbrev pub LendsKept : MutBor ReelHandle → MutBor KeptReel → Fml
+LendsKept h r = Lends handle_row kept_row h r (with_kept h.now)
+
+-- the reel behind a handle, and what its memory holds
+abbrev pub state_at : ReelHandle → State
+state_at h = state_in h.kept.seat
+
+-- its format, the meaning of its transform, and that its memory has its size
+abbrev pub setting_at : ReelHandle → Setting
+setting_at h = setting_in h.kept.seat
+
+-- the finished picture of its memory, and the ages of that
+abbrev pub finished_at : ReelHandle → Picture
+finished_at h = (state_at h).contents.held.finished
+
+abbrev pub ages_at : ReelHandle → List ℕ
+ages_at h = (state_at h).contents.held.finished_ages
+
+-- what one call makes of what lies behind a handle, and its answer in numbers
+pub record Answered (h : ReelHandle) (call : Calling) (h' : ReelHandle) (numbers : AnswerNumbers) : Type 0 where
+  pub state : state_at h' ≡ step (setting_at h) (state_at h) call
+  pub answer : numbers ≡ numbers_of (reply (setting_at h) (state_at h) call)
+  pub setting : setting_at h' ≡ setting_at h

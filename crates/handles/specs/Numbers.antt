@@ -1,0 +1,49 @@
+-- An answer in numbers.
+use Rattle.std.specs.Prelude.{ℕ}
+use Rattle.records.specs.declared.faults.Layer.{Layer}
+use Rattle.records.specs.declared.faults.Layer.TheVariants as layer
+use Rattle.records.specs.declared.faults.Refusal.{Refusal}
+use Rattle.calls.specs.declared.answers.Answer.{Answer}
+use Rattle.calls.specs.declared.answers.Answer.TheVariants as answer
+use Rattle.calls.specs.Faults.{picture_refusal}
+use Rattle.handles.specs.declared.answer.AnswerNumbers.{AnswerNumbers}
+
+abbrev pub layer_number : Layer → ℕ
+layer_number layer.Picture = 0
+layer_number layer.Words = 1
+layer_number layer.Macroblock = 2
+layer_number layer.Block = 3
+layer_number layer.Segment = 4
+
+-- the four outcomes: 0 accepted, 1 refused, 2 out of turn, 3 no memory
+abbrev pub accepted : ℕ → ℕ → AnswerNumbers
+accepted first second =
+    record { outcome = 0; number = 0; layer = 0; block = 0; word = 0; macroblock = 0; first = first; second = second }
+
+abbrev pub refused : Refusal → AnswerNumbers
+refused r =
+    record {
+      outcome = 1;
+      number = r.number;
+      layer = layer_number r.layer;
+      block = r.block;
+      word = r.word;
+      macroblock = r.macroblock;
+      first = 0;
+      second = 0;
+    }
+
+abbrev pub out_of_turn : AnswerNumbers
+out_of_turn = record { outcome = 2; number = 0; layer = 0; block = 0; word = 0; macroblock = 0; first = 0; second = 0 }
+
+abbrev pub no_memory : AnswerNumbers
+no_memory = record { outcome = 3; number = 0; layer = 0; block = 0; word = 0; macroblock = 0; first = 0; second = 0 }
+
+abbrev pub numbers_of : Answer → AnswerNumbers
+numbers_of (answer.Opened segments) = accepted segments 0
+numbers_of (answer.Delivered d) = accepted d.words d.intra
+numbers_of (answer.Closed marks) = accepted marks 0
+numbers_of (answer.Sample value) = accepted value 0
+numbers_of (answer.Age age) = accepted age 0
+numbers_of (answer.Refused f) = refused (picture_refusal f)
+numbers_of answer.OutOfTurn = out_of_turn

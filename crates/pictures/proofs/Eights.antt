@@ -1,0 +1,28 @@
+-- Eight samples of a row, one after the other.
+use Rattle.std.proofs.Common.{◌≡◌, ℕ, ◌+◌, ◌-◌, ◌<◌, ◌≤◌, List, length, get_or, set, sym, ap, ◌∙◌, subst, arith, length-set}
+use Rattle.std.proofs.lemmas.List.Edits.{fill_by_more}
+use Rattle.pictures.specs.Pictures.{Picture, painted, painted_eight, span, written}
+use Rattle.pictures.proofs.Painting.{none, span_more, span_none, step}
+
+-- a loop that writes f i at each place i of an array of eight
+abbrev pub Filled : (ℕ → ℕ) → ℕ → List ℕ → Type 0
+Filled f i xs = (length xs ≡ 8) × ((k : ℕ) → k < i → get_or xs k 0 ≡ f k)
+
+pub fill_step : (f : ℕ → ℕ) (i : ℕ) (xs : List ℕ) (v : ℕ) → i < 8 → v ≡ f i → Filled f i xs → Filled f (i + 1) (set xs i v)
+fill_step f i xs v h e (n, below) =
+    let P : ℕ → Type 0 = λ z. Filled f (i + 1) (set xs i z) in
+    subst P (sym e) (simp length-set n, fill_by_more f xs i 0 (omega arith) below)
+
+-- the picture in which the first i of eight values are set
+abbrev pub set_so_far : Picture → ℕ → ℕ → ℕ → List ℕ → ℕ → Picture
+set_so_far f p x y values i = painted (span p y x (x + i)) (λ _ u _. get_or values (u - x) 0) f
+
+pub set_none : (f : Picture) (p x y : ℕ) (values : List ℕ) → f ≡ set_so_far f p x y values 0
+set_none f p x y values = none _ _ _ (λ q u v. let e : x + 0 ≡ x = omega arith in rw e (span_none p y x q u v))
+
+pub set_more : (f f₁ f₂ : Picture) (p x y i value : ℕ) (values : List ℕ) → f₁ ≡ set_so_far f p x y values i → f₂ ≡ written f₁ p (x + i) y value
+    → value ≡ get_or values i 0 → f₂ ≡ set_so_far f p x y values (i + 1)
+set_more f f₁ f₂ p x y i value values was wrote is =
+    let e : x + i - x ≡ i = omega arith in
+    step (span p y x (x + i)) (span p y x (x + (i + 1))) _ f f₁ f₂ p (x + i) y value was wrote (is ∙ ap (λ n. get_or values n 0) (sym e))
+    (λ q u v. let j : x + (i + 1) ≡ x + i + 1 = omega arith in rw j (span_more p y x (x + i) q u v (omega arith)))

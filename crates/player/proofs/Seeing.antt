@@ -1,0 +1,106 @@
+-- What lines come to, step after step.
+use Rattle.std.proofs.Common.{◌≡◌, ℕ, true, false, List, [], ◌∷◌, IsSome, Some, None, Option, Ok, sym, refl, ap, ◌∙◌, subst, string_bytes}
+use Rattle.std.specs.Option.{option_map}
+use Rattle.calls.specs.Runs.{Calling, Setting, State, run, step}
+use Rattle.call_lines.specs.declared.line.StoreKind.{StoreKind}
+use Rattle.call_lines.specs.declared.line.TransformKind.{TransformKind}
+use Rattle.transcripts.specs.declared.transcript.Transcript.{Transcript}
+use Rattle.transcripts.specs.Told.{Tells, Told, accepted, told_by}
+use Rattle.seats.specs.declared.seat.Choices.{Choices}
+use Rattle.seats.specs.declared.seat.Seat.{Seat}
+use Rattle.seats.specs.Steps.{setting_in, state_in}
+use Rattle.seats.specs.Tellings.{miss_calls, tell_calls}
+use Rattle.pictures.specs.declared.formats.Format.{Format}
+use Rattle.reel.specs.Calls.{new_reel}
+use Rattle.reel.specs.declared.reels.Reel.{Reel}
+use Rattle.replay.specs.declared.Stage.TheVariants.{Resting}
+use Rattle.replay.specs.Stages.{setting_at, state_of}
+use Rattle.transcripts.specs.declared.answers.Word.TheVariants as word
+use Rattle.transcripts.proofs.Telling.{tells_then}
+use Rattle.seats.specs.Seats.{blank, held_by, meaning_of}
+use Rattle.player.specs.Plays.{Played, Playing, begun, calls_made, leaving, telling}
+use Rattle.player.specs.Seen.{Plays, playing_in, seen}
+
+abbrev pub view : Option Seat → Choices → Told → Played
+view seat choices t = record { store = choices.store; transform = choices.transform; reel = playing_in seat; told = t }
+
+over : {X Y : Type 0} (f : Y → Y) (g : X → X) (v v' : X → Y) (o : Option X) → ((t : X) → v' (g t) ≡ f (v t)) → option_map v' (option_map g o) ≡ option_map f (option_map v o)
+over f g v v' None e = refl
+over f g v v' (Some x) e = ap Some (e x)
+
+-- what is told, and seat and choices where memory sufficed
+pub plays_from : (f : Played → Played) (g : Told → Told) (seat : Option Seat) (choices : Choices) (old : Transcript) (seat' : Option Seat) (choices' : Choices) (new : Transcript)
+    → Tells g old new → (IsSome new.text → (t : Told) → view seat' choices' (g t) ≡ f (view seat choices t)) → Plays f seat choices old seat' choices' new
+plays_from f g seat choices old seat' choices' new p e =
+    record { played = λ some. ap (option_map (view seat' choices')) (p.told some) ∙ over f g (view seat choices) (view seat' choices') (told_by old) (e some) }
+
+-- only the text changes
+pub plays_told : (g : Told → Told) (seat : Option Seat) (choices : Choices) (old new : Transcript) → Tells g old new → Plays (telling g) seat choices old seat choices new
+plays_told g seat choices old new p = plays_from (telling g) g seat choices old seat choices new p (λ some t. refl)
+
+-- calls without a reel, and with one
+pub calls_missed : (cs : List Calling) (store : StoreKind) (transform : TransformKind) (t : Told)
+    → calls_made cs (record { store = store; transform = transform; reel = None; told = t }) ≡ record { store = store; transform = transform; reel = None; told = miss_calls cs t }
+calls_missed [] store transform t = refl
+calls_missed (c ∷ cs) store transform t = calls_missed cs store transform _
+
+pub calls_run : (w : Setting) (R : State) (cs : List Calling) (store : StoreKind) (transform : TransformKind) (t : Told)
+    → calls_made cs (record { store = store; transform = transform; reel = Some (record { setting = w; state = R }); told = t })
+    ≡ record { store = store; transform = transform; reel = Some (record { setting = w; state = run w R cs }); told = tell_calls w R cs t }
+calls_run w R [] store transform t = refl
+calls_run w R (c ∷ cs) store transform t = calls_run w (step w R c) cs store transform _
+
+pub missed_plays : (cs : List Calling) (choices : Choices) (old new : Transcript) → Tells (miss_calls cs) old new → Plays (calls_made cs) None choices old None choices new
+missed_plays cs choices old new p = plays_from (calls_made cs) (miss_calls cs) None choices old None choices new p (λ some t. sym (calls_missed cs choices.store choices.transform t))
+
+pub made_plays : (cs : List Calling) (seat seat' : Seat) (choices : Choices) (old new : Transcript) → (IsSome new.text → state_in seat' ≡ run (setting_in seat) (state_in seat) cs) → setting_in seat' ≡ setting_in seat
+    → Tells (tell_calls (setting_in seat) (state_in seat) cs) old new → Plays (calls_made cs) (Some seat) choices old (Some seat') choices new
+made_plays cs seat seat' choices old new s w p =
+    plays_from (calls_made cs) (tell_calls (setting_in seat) (state_in seat) cs) (Some seat) choices old (Some seat') choices new p
+    (λ some t. ap (λ (r : Playing). record { store = choices.store; transform = choices.transform; reel = Some r; told = tell_calls (setting_in seat) (state_in seat) cs t }) (λ i. record { setting = w i; state = s some i })
+    ∙ sym (calls_run (setting_in seat) (state_in seat) cs choices.store choices.transform t))
+
+some_in : {X Y : Type 0} (v : X → Y) (o : Option X) → IsSome o → IsSome (option_map v o)
+some_in v None some = some
+some_in v (Some x) some = refl
+
+some_out : {X Y : Type 0} (v : X → Y) (o : Option X) → IsSome (option_map v o) → IsSome o
+some_out v None some = some
+some_out v (Some x) some = refl
+
+-- there was a text before
+pub plays_had : (f : Played → Played) (seat : Option Seat) (choices : Choices) (old : Transcript) (seat' : Option Seat) (choices' : Choices) (new : Transcript) → Plays f seat choices old seat' choices' new → IsSome new.text → IsSome old.text
+plays_had f seat choices old seat' choices' new p some =
+    some_out _ old.text (some_out (view seat choices) (told_by old) (some_out f (seen seat choices old)
+    (subst IsSome (p.played some) (some_in (view seat' choices') (told_by new) (some_in (λ s. record { text = string_bytes s; calls = new.calls; refused = new.refused }) new.text some)))))
+
+-- a new reel begins
+pub begun_plays : (o : Option Format) (reel : Reel) (seat : Option Seat) (next : Seat) (choices : Choices) (x y z : Transcript) → Ok reel ≡ new_reel o
+    → next.stage ≡ Resting reel → next.transform ≡ choices.transform → held_by next.memory ≡ blank reel.format → Tells (leaving (playing_in seat)) x y → Tells (accepted word.New) y z
+    → Plays (begun o) seat choices x (Some next) choices z
+begun_plays None reel seat next choices x y z e s k h p q = absurd (cc)
+begun_plays (Some format) reel seat next choices x y z e s k h p q =
+    let r : reel ≡ record { format = format; pictures = 0; finished = None } = cc in
+    let s' = s ∙ ap Resting r in
+    let h' = h ∙ ap (λ (a : Reel). blank a.format) r in
+    plays_from (begun (Some format)) (λ t. accepted word.New (leaving (playing_in seat) t)) seat choices x (Some next) choices z (tells_then (leaving (playing_in seat)) (accepted word.New) x y z p q)
+    (λ some t. ap (λ (a : Playing). record { store = choices.store; transform = choices.transform; reel = Some a; told = accepted word.New (leaving (playing_in seat) t) })
+    (λ i. record { setting = setting_at (s' i) (meaning_of (k i)) (h' i); state = state_of (s' i) (h' i) }))
+
+-- What is left to play, rest, is what is left of all that was to be played from a start.
+pub record Left (all : Played → Played) (seat₀ : Option Seat) (choices₀ : Choices) (old : Transcript) (rest : Played → Played) (seat : Option Seat) (choices : Choices) (now : Transcript) : Type 0 where
+  pub left : IsSome now.text → option_map rest (seen seat choices now) ≡ option_map all (seen seat₀ choices₀ old)
+
+mapped : (f g h : Played → Played) (o : Option Played) → ((p : Played) → g (f p) ≡ h p) → option_map g (option_map f o) ≡ option_map h o
+mapped f g h None e = refl
+mapped f g h (Some p) e = ap Some (e p)
+
+module _ (all : Played → Played) (seat₀ : Option Seat) (choices₀ : Choices) (old : Transcript) where
+  pub left_start : Left all seat₀ choices₀ old all seat₀ choices₀ old
+  left_start = record { left = λ some. refl }
+
+  pub left_more : (rest f rest' : Played → Played) (seat : Option Seat) (choices : Choices) (now : Transcript) (seat' : Option Seat) (choices' : Choices) (new : Transcript)
+      → Left all seat₀ choices₀ old rest seat choices now → Plays f seat choices now seat' choices' new → ((p : Played) → rest' (f p) ≡ rest p)
+      → Left all seat₀ choices₀ old rest' seat' choices' new
+  left_more rest f rest' seat choices now seat' choices' new was step e =
+      record { left = λ some. ap (option_map rest') (step.played some) ∙ mapped f rest' rest (seen seat choices now) e ∙ was.left (plays_had f seat choices now seat' choices' new step some) }

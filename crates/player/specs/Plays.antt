@@ -1,0 +1,134 @@
+-- What a script is answered: its lines are played one after the other.
+use Rattle.std.specs.Prelude.{◌≡◌, ℕ, ◌+◌, List, [], ◌∷◌, Some, None, Ok, Err, Option, Result, map}
+use Rattle.records.specs.declared.faults.SegmentFault.{SegmentFault}
+use Rattle.records.specs.declared.types.Macroblock.{Macroblock}
+use Rattle.records.specs.Deliveries.{delivered_of, read}
+use Rattle.pictures.specs.declared.formats.Format.{Format}
+use Rattle.pictures.specs.Formats.{numbered}
+use Rattle.script.specs.declared.line.Mistake.{Mistake}
+use Rattle.script.specs.Fields.{lines_of}
+use Rattle.script.specs.Lines as script_lines
+use Rattle.calls.specs.declared.answers.Answer.TheVariants.{Delivered, OutOfTurn, Refused}
+use Rattle.calls.specs.declared.faults.PictureFault.TheVariants as fault
+use Rattle.calls.specs.Runs.{Calling, Setting, State, asking_age, asking_sample, closing, delivering, opening, setting_of, step}
+use Rattle.calls.specs.Runs as runs
+use Rattle.call_lines.specs.declared.line.StoreKind.{StoreKind}
+use Rattle.call_lines.specs.declared.line.TransformKind.{TransformKind}
+use Rattle.call_lines.specs.declared.line.TransformKind.TheVariants.{TwoPass}
+use Rattle.call_lines.specs.Lines.{Meaning, age, ages, close, deliver, line_of, new, opened, records, sample, store, transform}
+use Rattle.transcripts.specs.declared.answers.Word.TheVariants as word
+use Rattle.transcripts.specs.Answers.{done_text, line_after, misread_text}
+use Rattle.transcripts.specs.Macroblocks.{numbered_text}
+use Rattle.transcripts.specs.Told.{Told, accepted, answered, with_line}
+use Rattle.seats.specs.Seats.{blank, meaning_of}
+use Rattle.seats.specs.Tellings.{miss_call, tell_ages, tell_call, tell_leaving}
+
+-- the reel there is: what is the same throughout its run, and the state that it is in
+pub record Playing : Type 0 where
+  pub setting : Setting
+  pub state : State
+
+-- what the lines so far have come to: the choices for the reels to come, the reel there is, if there is one, and what is told
+pub record Played : Type 0 where
+  pub store : StoreKind
+  pub transform : TransformKind
+  pub reel : Option Playing
+  pub told : Told
+
+-- before the first line
+abbrev pub started : StoreKind → Told → Played
+started kind t = record { store = kind; transform = TwoPass; reel = None; told = t }
+
+-- more is told, and nothing else is done
+abbrev pub telling : (Told → Told) → Played → Played
+telling f p = record { store = p.store; transform = p.transform; reel = p.reel; told = f p.told }
+
+-- a call on the reel there is; without one it is out of turn
+abbrev pub made_on : Option Playing → Calling → Played → Played
+made_on None c p = telling (miss_call c) p
+made_on (Some r) c p =
+    record {
+      store = p.store;
+      transform = p.transform;
+      reel = Some (record { setting = r.setting; state = step r.setting r.state c });
+      told = tell_call r.setting r.state c p.told;
+    }
+
+abbrev pub make_call : Calling → Played → Played
+make_call c p = made_on p.reel c p
+
+-- call after call
+abbrev pub calls_made : List Calling → Played → Played
+calls_made [] p = p
+calls_made (c ∷ cs) p = calls_made cs (make_call c p)
+
+abbrev pub ages_on : Option Playing → Told → Told
+ages_on None t = answered word.Ages OutOfTurn t
+ages_on (Some r) t = tell_ages r.setting r.state t
+
+-- a picture that the reel there is has open is closed
+abbrev pub leaving : Option Playing → Told → Told
+leaving None t = t
+leaving (Some r) t = tell_leaving r.setting r.state t
+
+-- a reel that begins over zeros
+abbrev pub begun_in : Format → TransformKind → Playing
+begun_in format kind = record { setting = setting_of format (meaning_of kind) (blank format); state = runs.new (blank format) }
+
+-- a new reel ends the one before it; a number of no format leaves it as it is
+abbrev pub begun : Option Format → Played → Played
+begun None p = telling (answered word.New (Refused fault.Format)) p
+begun (Some format) p =
+    record { store = p.store; transform = p.transform; reel = Some (begun_in format p.transform); told = accepted word.New (leaving p.reel p.told) }
+
+-- macroblocks are told by their index
+abbrev pub tell_macroblocks : ℕ → List Macroblock → Told → Told
+tell_macroblocks index [] t = t
+tell_macroblocks index (m ∷ ms) t = tell_macroblocks (index + 1) ms (with_line (numbered_text index m) t)
+
+abbrev pub tell_delivery : List ℕ → Result (List Macroblock) SegmentFault → Told → Told
+tell_delivery bytes (Ok ms) t = answered word.Records (Delivered (delivered_of bytes ms)) (tell_macroblocks 0 ms t)
+tell_delivery bytes (Err f) t = answered word.Records (Refused (fault.Segment f)) t
+
+abbrev pub tell_records : script_lines.Meaning → Told → Told
+tell_records r t = tell_delivery r.bytes (read r.kind r.macroblocks r.bytes) t
+
+-- what a line that says something comes to
+abbrev pub played_by : Meaning → Played → Played
+played_by (store kind) p = record { store = kind; transform = p.transform; reel = p.reel; told = p.told }
+played_by (transform kind) p = record { store = p.store; transform = kind; reel = p.reel; told = p.told }
+played_by (new format) p = begun (numbered format) p
+played_by (opened kind rounding layout) p = make_call (opening kind rounding layout) p
+played_by (deliver segment bytes) p = make_call (delivering segment bytes) p
+played_by close p = make_call closing p
+played_by (sample plane across down) p = make_call (asking_sample plane across down) p
+played_by (age column row) p = make_call (asking_age column row) p
+played_by ages p = telling (ages_on p.reel) p
+played_by (records r) p = telling (tell_records r) p
+
+-- a line by its number: a blank one says nothing, and of a mistake it is told what is wrong
+abbrev pub line_played : ℕ → Result (Option Meaning) Mistake → Played → Played
+line_played n (Ok None) p = p
+line_played n (Ok (Some l)) p = played_by l p
+line_played n (Err m) p = telling (with_line (misread_text n m)) p
+
+-- line after line, from a number on
+abbrev pub lines_played : ℕ → List (Result (Option Meaning) Mistake) → Played → Played
+lines_played n [] p = p
+lines_played n (l ∷ ls) p = lines_played (n + 1) ls (line_played n l p)
+
+-- a picture that is open in the end is closed
+abbrev pub ended : Played → Told
+ended p = leaving p.reel p.told
+
+-- all that is told of lines, where reels are stored as said until the lines say otherwise
+abbrev pub told_of : StoreKind → List (Result (Option Meaning) Mistake) → Told → Told
+told_of kind lines t = ended (lines_played 1 lines (started kind t))
+
+-- the last line
+abbrev pub done : Told → List ℕ
+done t = line_after t.text (done_text t.calls t.refused)
+
+-- the text of the answers to a script
+abbrev pub answers_to : StoreKind → List ℕ → List ℕ
+answers_to kind script = done (told_of kind (map line_of (lines_of script)) (record { text = []; calls = 0; refused = 0 }))

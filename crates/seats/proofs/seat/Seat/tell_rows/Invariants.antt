@@ -1,0 +1,7 @@
+use Rattle.transcripts.specs.Told.{Tells}
+use Rattle.seats.specs.Tellings.{tell_rows}
+use Rattle.seats.proofs.seat.Seat.tell_rows.Given as goal
+
+-- the rows so far are told
+abbrev pub invariant-loop-row : goal.invariant-loop-row
+invariant-loop-row l = Tells (tell_rows l.columns l.table l.row) l.initial.transcript l.transcript

@@ -1,0 +1,94 @@
+-- What is told of the calls of a reel.
+use Rattle.std.specs.Prelude.{◌≡◌, ℕ, zero, suc, ◌*◌, List, [], ◌∷◌, ℤ, true, false, Bool, Some, None, Ok, Err, Option, Result, drop, take}
+use Rattle.pictures.specs.declared.formats.Format.{Format}
+use Rattle.pictures.specs.Formats.{columns_of, rows_of}
+use Rattle.calls.specs.declared.answers.Answer.{Answer}
+use Rattle.calls.specs.declared.answers.Answer.TheVariants.{Opened, Delivered, Closed, Sample, Age, Refused, OutOfTurn}
+use Rattle.calls.specs.declared.faults.PictureFault.{PictureFault}
+use Rattle.calls.specs.Held.{Held}
+use Rattle.calls.specs.Runs.{Calling, Control, Setting, Stage, State, asking_age, asking_sample, closing, control, delivering, open_to, opening, reply, resting, step}
+use Rattle.transcripts.specs.declared.answers.Word.TheVariants as word
+use Rattle.transcripts.specs.Answers.{ages_text, answer_text, word_for}
+use Rattle.transcripts.specs.Sums.{sums_text}
+use Rattle.transcripts.specs.Told.{Told, accepted, answered, with_line}
+use Rattle.seats.specs.Seats.{sums_of}
+
+-- a closed picture is told by its sums
+abbrev pub with_sums : Answer → Held → Told → Told
+with_sums (Opened n) h t = t
+with_sums (Delivered d) h t = t
+with_sums (Closed marks) h t = with_line (sums_text (sums_of h)) t
+with_sums (Sample n) h t = t
+with_sums (Age n) h t = t
+with_sums (Refused f) h t = t
+with_sums OutOfTurn h t = t
+
+-- an answer to a call is told, and the sums of the picture that it closed, which is then held
+abbrev pub tell_answer : Calling → Answer → Held → Told → Told
+tell_answer c a h t = with_sums a h (answered (word_for c) a t)
+
+abbrev pub tell_call : Setting → State → Calling → Told → Told
+tell_call w R c t = tell_answer c (reply w R c) (step w R c).contents.held t
+
+-- call after call
+abbrev pub tell_calls : Setting → State → List Calling → Told → Told
+tell_calls w R [] t = t
+tell_calls w R (c ∷ cs) t = tell_calls w (step w R c) cs (tell_call w R c t)
+
+-- answers that were given before, over what is held in the end
+abbrev pub tell_answers : List Calling → List Answer → Held → Told → Told
+tell_answers [] answers h t = t
+tell_answers (c ∷ cs) [] h t = t
+tell_answers (c ∷ cs) (a ∷ more) h t = tell_answers cs more h (tell_answer c a h t)
+
+-- without a reel each call is out of turn
+abbrev pub miss_call : Calling → Told → Told
+miss_call c t = answered (word_for c) OutOfTurn t
+
+abbrev pub miss_line : Option Calling → Told → Told
+miss_line None t = t
+miss_line (Some c) t = miss_call c t
+
+abbrev pub miss_calls : List Calling → Told → Told
+miss_calls [] t = t
+miss_calls (c ∷ cs) t = miss_calls cs (miss_call c t)
+
+-- the first rows of ages, each a line
+abbrev pub tell_rows : ℕ → List ℕ → ℕ → Told → Told
+tell_rows columns ages zero t = t
+tell_rows columns ages (suc n) t = with_line (ages_text (take columns (drop (n * columns) ages))) (tell_rows columns ages n t)
+
+-- what the question after an age is answered
+abbrev pub told_age : Result ℕ PictureFault → Answer
+told_age (Ok age) = Age age
+told_age (Err f) = Refused f
+
+-- all ages of the finished picture, where the question after the first of them is answered
+abbrev pub tell_table : Answer → Format → List ℕ → Told → Told
+tell_table (Refused f) format ages t = answered word.Ages (Refused f) t
+tell_table _ format ages t = tell_rows (columns_of format) ages (rows_of format) (accepted word.Ages t)
+
+abbrev pub tell_ages : Setting → State → Told → Told
+tell_ages w R t = tell_table (reply w R (asking_age 0 0)) w.format R.contents.held.finished_ages t
+
+-- a picture that is left open is closed; that is told and not counted
+abbrev pub tell_left : Control → Setting → State → Told → Told
+tell_left (control n f resting) w R t = t
+tell_left (control n f (open_to kind rounding layout)) w R t =
+    with_sums (reply w R closing) (step w R closing).contents.held (with_line (answer_text word.Close (reply w R closing)) t)
+
+abbrev pub tell_leaving : Setting → State → Told → Told
+tell_leaving w R t = tell_left R.state w R t
+
+-- no call but the last closes a picture
+abbrev pub not_closing : Calling → Bool
+not_closing (opening kind rounding layout) = true
+not_closing (delivering segment bytes) = true
+not_closing closing = false
+not_closing (asking_sample plane across down) = true
+not_closing (asking_age column row) = true
+
+abbrev pub ClosesLast : List Calling → Type 0
+ClosesLast [] = Unit {0}
+ClosesLast (c ∷ []) = Unit {0}
+ClosesLast (c ∷ d ∷ cs) = (not_closing c ≡ true) × ClosesLast (d ∷ cs)
