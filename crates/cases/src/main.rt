@@ -2,7 +2,8 @@
 // The arguments name the cases: NAME stands for the files NAME.script and NAME.expected.
 #![tactic(auto)]
 
-ghost use Rattle.std.specs.Prelude.{◌≡◌, is_ok};
+ghost use Rattle.std.specs.Prelude.{◌≡◌, true, false, Ok, length, is_ok};
+ghost use Rattle.script.specs.Fields.{lines_of};
 ghost use Rattle.std.specs.Str.{bytes_eq};
 
 use anyhow::anyhow;
@@ -23,7 +24,8 @@ fn find_difference(answers: &[u8], expected: &[u8]) -> usize {
 
 // How many lines answers have that are as expected, byte for byte, or the number of the first line that is not.
 fn compare(answers: &[u8], expected: &[u8]) -> Result<usize, usize>
-    ensures { is_ok result ≡ bytes_eq answers.now expected.now }
+    ensures same { bytes_eq answers.now expected.now ≡ true → result ≡ Ok (length (lines_of expected.now)) }
+    ensures different { bytes_eq answers.now expected.now ≡ false → is_ok result ≡ false }
 {
     if is_text(answers, expected) {
         Ok(lines_of(expected).count())

@@ -1,5 +1,5 @@
 // What is measured of a transform's errors, and the limits.
-ghost use Rattle.std.specs.Prelude.{◌≡◌, ◌+◌, ◌-◌, ◌^◌, ◌<◌, ◌-ℤ◌, fold, unsigned_abs};
+ghost use Rattle.std.specs.Prelude.{◌≡◌, ◌+◌, ◌-◌, ◌^◌, ◌<◌, ◌&&◌, ◌-ℤ◌, fold, unsigned_abs};
 ghost use Rattle.conformance.specs.Errors.{allowed, excess, joined, no_totals, noted};
 
 // The errors at one place of a block.
@@ -92,4 +92,13 @@ pub fn totals_of(places: &[Errors; 64]) -> Totals
     places
         .iter()
         .fold(Totals::default(), |totals, here| totals.join(*here))
+}
+
+// Whether a transform is accurate: it keeps zeros, and all limits in each series that was measured.
+pub fn is_accurate(keeps_zeros: bool, measured: &[Totals]) -> bool
+    ensures { result ≡ fold (λ good totals. good && allowed totals) keeps_zeros measured.now }
+{
+    measured
+        .iter()
+        .fold(keeps_zeros, |good, totals| good && totals.allowed())
 }

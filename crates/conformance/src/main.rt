@@ -9,7 +9,7 @@ mod reference;
 
 use anyhow::anyhow;
 use draws::{Generator, Range, Series};
-use errors::{Errors, Totals, totals_of};
+use errors::{Errors, Totals, is_accurate, totals_of};
 use reference::Reference;
 use transform::{Direct, Transform, TwoPass};
 
@@ -70,16 +70,16 @@ fn accurate<X: Transform>(
     reference: &Reference,
 ) -> anyhow::Result<bool> {
     println!(rt; "{name}")?;
-    let mut good = keeps_zeros(transform);
-    for range in RANGES {
-        for turned in [false, true] {
-            let series = Series { range, turned };
-            let totals = measure(transform, reference, series);
-            print_totals(rt, series, totals)?;
-            good &= totals.allowed();
-        }
+    let mut measured = [Totals::default(); 6];
+    for (i, totals) in measured.iter_mut().enumerate() {
+        let series = Series {
+            range: RANGES[i / 2],
+            turned: i % 2 == 1,
+        };
+        *totals = measure(transform, reference, series);
+        print_totals(rt, series, *totals)?;
     }
-    Ok(good)
+    Ok(is_accurate(keeps_zeros(transform), &measured))
 }
 
 fn run(rt: &impl Print) -> anyhow::Result<()> {

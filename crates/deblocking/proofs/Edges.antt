@@ -6,7 +6,7 @@ use Rattle.std.proofs.lemmas.Bool.Decides.{nat_tests}
 use Rattle.samples.specs.Deblocking.{deblocked, strength_of}
 use Rattle.pictures.specs.Pictures.{Picture, has, here, inside, painted, side, written}
 use Rattle.pictures.specs.declared.layouts.Segment.{Segment}
-use Rattle.pictures.proofs.Painting.{same_picture, same_place, none, step}
+use Rattle.pictures.proofs.Painting.{same_picture, none, step}
 use Rattle.deblocking.specs.Edges.{turn, across_of, down_of, edge, role, first, four_from, of_role, smoothed, border, edges, edges_in}
 
 -- what holds with 16 samples to a macroblock and with 8 holds in each plane
@@ -18,7 +18,7 @@ by_side P p a b = at (eqb p 0)
     at false = b
 
 -- turning
-turned_inside : (w h p x y : ℕ) → inside w h p x y ≡ inside h w p y x
+pub turned_inside : (w h p x y : ℕ) → inside w h p x y ≡ inside h w p y x
 unfolding inside
 turned_inside w h p x y = ap (λ b. ltb p 3 && b) (and_comm (ltb x (w * side p)) (ltb y (h * side p)))
 
@@ -115,24 +115,6 @@ four_writings quantizer f f₁ f₂ f₃ f₄ p x n a b c d l is-a is_b is_c is-
     (is_c ∙ sym (smoothed_at quantizer f p x n 2 l (omega arith))) (λ q u v. refl) in
     step (λ q u v. here p x (first n + 2) q u v || (here p x (first n + 1) q u v || (here p x (first n) q u v || false))) (edges p x (x + 1) n (n + 1)) new f f₃ f₄ p x (first n + 3) d g₃ w₄
     (is-d ∙ sym (smoothed_at quantizer f p x n 3 l (omega arith))) (λ q u v. place_is p x n q u v l)
-
--- a writing of what stands there changes nothing, nor does the filter where it leaves the four samples as they are
-same_writing : (f : Picture) (p x y value : ℕ) → value ≡ f.sample p x y → f ≡ written f p x y value
-same_writing f p x y value is = same_picture _ _ refl refl (λ q u v. at q u v (has f q u v) refl (here p x y q u v) refl)
-  where
-    at : (q u v : ℕ) (b : Bool) → has f q u v ≡ b → (d : Bool) → here p x y q u v ≡ d → f.sample q u v ≡ (written f p x y value).sample q u v
-    at q u v true e true d =
-        let t = same_place p x y q u v d in
-        simp (e, d) (sym (is ∙ ap (λ n. f.sample n x y) t.0 ∙ ap (λ n. f.sample q n y) t.1 ∙ ap (λ n. f.sample q u n) t.2))
-    at q u v true e false d = simp (e, d)
-    at q u v false e d i = simp e
-
-pub kept_place : (quantizer : ℕ) (f : Picture) (p x n : ℕ) → 1 ≤ n → deblocked (strength_of quantizer) (four_from f.sample p x (first n)) ≡ four_from f.sample p x (first n)
-    → f ≡ painted (edges p x (x + 1) n (n + 1)) (smoothed (λ _ _ _. Some quantizer) f.sample) f
-kept_place quantizer f p x n l kept =
-    four_writings quantizer f f f f f p x n _ _ _ _ l
-    (sym (ap (λ s. s.a) kept)) (sym (ap (λ s. s.b) kept)) (sym (ap (λ s. s.c) kept)) (sym (ap (λ s. s.d) kept))
-    (same_writing f p x (first n) _ refl) (same_writing f p x (first n + 1) _ refl) (same_writing f p x (first n + 2) _ refl) (same_writing f p x (first n + 3) _ refl)
 
 -- parts of edges: none yet, one more along an edge, one edge more
 pub none_along : (p low from to q u v : ℕ) → edges p low low from to q u v ≡ false

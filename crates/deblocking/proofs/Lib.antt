@@ -1,3 +1,3 @@
 pub mod Edges
 pub mod Locality
-pub mod Runs
+pub mod Squared

@@ -2,12 +2,15 @@
 // coordinate and is crossed over the other: a horizontal one runs across, a vertical one down.
 #![tactic(auto)]
 
-ghost use Rattle.std.specs.Prelude.{◌≡◌, ◌+◌, ◌*◌, ◌≤◌, ◌&&◌, false, Some, ◌==◌};
+ghost use Rattle.std.specs.Prelude.{◌≡◌, ◌+◌, ◌*◌, ◌/◌, ◌≤◌, ◌&&◌, max, Some, ◌==◌};
 ghost use Rattle.pictures.specs.Pictures.{painted, side, written};
 ghost use Rattle.deblocking.specs.Edges.{Local, across_of, border, down_of, edge_mark, edges, edges_in, filtered, filtered_over, is_vertical, mark_of, quantizer_at, smoothed, turn, turn_segment};
 
+mod squares;
+
 use pictures::{Segment, Store, side_of};
-use samples::{Four, FourRows, deblock, deblock_rows, is_kept};
+use samples::{Four, deblock, deblock_rows};
+use squares::is_same;
 
 // Which way an edge runs.
 #[derive(Clone, Copy)]
@@ -21,6 +24,7 @@ impl Direction {
     fn place(self, along: usize, over: usize) -> (usize, usize)
         ensures across { result.0 ≡ across_of (is_vertical self) along over }
         ensures down { result.1 ≡ down_of (is_vertical self) along over }
+        ensures most { (result.0 ≤ max along over) × (result.1 ≤ max along over) }
     {
         match self {
             Direction::Horizontal => (along, over),
@@ -92,21 +96,28 @@ impl Edge {
         store.write(self.plane, across, down, value);
     }
 
+    // The mark of the macroblock of this number along the edge that a coordinate over it lies in.
+    fn mark_at(self, marks: Marks, along: u16, over: usize) -> Option<u8>
+        requires { over ≤ 2000000 }
+        ensures { let t = is_vertical self.direction in result ≡ mark_of marks.entry.cells.now marks.entry.columns (across_of t along (over / side self.plane)) (down_of t along (over / side self.plane)) }
+    {
+        let side = side_of(self.plane);
+        let (across, down) = self.direction.place(along as usize, over / side);
+        marks.at(across, down)
+    }
+
     // The mark that the edge is filtered by between two macroblocks: the one after it, else the one before.
     fn mark(self, marks: Marks, along: u16) -> Option<u8>
         ensures { result ≡ edge_mark marks.entry.cells.now marks.entry.columns (is_vertical self.direction) (side self.plane) along self.number }
     {
-        let side = side_of(self.plane);
-        let (across, down) = self.direction.place(along as usize, self.number * 8 / side);
-        let after = marks.at(across, down);
-        let (across, down) = self
-            .direction
-            .place(along as usize, (self.number * 8 - 1) / side);
-        let before = marks.at(across, down);
-        after.or(before)
+        let over = self.number * 8;
+        match self.mark_at(marks, along, over) {
+            None => self.mark_at(marks, along, over - 1),
+            mark => mark,
+        }
     }
 
-    // Filters the edge at one place along it. (Where all four samples stay, as they often do, none is written.)
+    // Filters the edge at one place along it.
     fn smooth_place<S: Store>(self, store: &mut S, along: usize, quantizer: u8)
         ensures { let t = is_vertical self.direction in turn t (S.picture store.new) ≡ painted (edges self.plane along (along + 1) self.number (self.number + 1)) (smoothed (λ _ _ _. Some quantizer) (turn t (S.picture store.old)).sample) (turn t (S.picture store.old)) }
     {
@@ -117,9 +128,6 @@ impl Edge {
             c: self.sample_at(store, along, first + 2),
             d: self.sample_at(store, along, first + 3),
         };
-        if is_kept(quantizer, four) {
-            return;
-        }
         let new = deblock(quantizer, four);
         self.write_at(store, along, first, new.a);
         self.write_at(store, along, first + 1, new.b);
@@ -127,34 +135,32 @@ impl Edge {
         self.write_at(store, along, first + 3, new.d);
     }
 
-    // Filters a horizontal edge at eight places along it, which lie side by side in four rows.
-    fn smooth_eight<S: Store>(self, store: &mut S, along: usize, quantizer: u8)
-        requires small { along ≤ 65535 }
-        requires level { is_vertical self.direction ≡ false }
-        ensures { S.picture store.new ≡ painted (edges self.plane along (along + 8) self.number (self.number + 1)) (smoothed (λ _ _ _. Some quantizer) (S.picture store.old).sample) (S.picture store.old) }
+    // Filters the edge at eight places along it, whose samples lie in a square that has the edge in its middle. (Where all of them stay, as they often do,
+    // none is written.)
+    fn smooth_square<S: Store>(self, store: &mut S, along: usize, quantizer: u8)
+        requires along { along ≤ 65535 }
+        requires over { self.number * 8 ≤ 65535 }
+        ensures { let t = is_vertical self.direction in turn t (S.picture store.new) ≡ painted (edges self.plane along (along + 8) self.number (self.number + 1)) (smoothed (λ _ _ _. Some quantizer) (turn t (S.picture store.old)).sample) (turn t (S.picture store.old)) }
     {
-        let first = self.number * 8 - 2;
-        let rows = FourRows {
-            a: store.read_eight(self.plane, along, first),
-            b: store.read_eight(self.plane, along, first + 1),
-            c: store.read_eight(self.plane, along, first + 2),
-            d: store.read_eight(self.plane, along, first + 3),
-        };
+        let (across, down) = self.direction.place(along, self.number * 8 - 4);
+        let mut square = store.read_square(self.plane, across, down);
+        let rows = self.direction.middle(&square);
         let new = deblock_rows(quantizer, &rows);
-        store.write_eight(self.plane, along, first, &new.a);
-        store.write_eight(self.plane, along, first + 1, &new.b);
-        store.write_eight(self.plane, along, first + 2, &new.c);
-        store.write_eight(self.plane, along, first + 3, &new.d);
+        if is_same(&new, &rows) {
+            return;
+        }
+        self.direction.set_middle(&mut square, &new);
+        store.write_square(self.plane, across, down, &square);
     }
 
-    // Filters a horizontal edge from here along, so many times eight places.
-    fn smooth_eights<S: Store>(self, store: &mut S, from: usize, count: usize, quantizer: u8)
-        requires small { from + 8 * count ≤ 65535 }
-        requires level { is_vertical self.direction ≡ false }
-        ensures { S.picture store.new ≡ painted (edges self.plane from (from + 8 * count) self.number (self.number + 1)) (smoothed (λ _ _ _. Some quantizer) (S.picture store.old).sample) (S.picture store.old) }
+    // Filters the edge from here along, so many times eight places.
+    fn smooth_squares<S: Store>(self, store: &mut S, from: usize, count: usize, quantizer: u8)
+        requires along { from + 8 * count ≤ 65535 }
+        requires over { self.number * 8 ≤ 65535 }
+        ensures { let t = is_vertical self.direction in turn t (S.picture store.new) ≡ painted (edges self.plane from (from + 8 * count) self.number (self.number + 1)) (smoothed (λ _ _ _. Some quantizer) (turn t (S.picture store.old)).sample) (turn t (S.picture store.old)) }
     {
-        for eight in 0..count {
-            self.smooth_eight(store, from + 8 * eight, quantizer);
+        for square in 0..count {
+            self.smooth_square(store, from + 8 * square, quantizer);
         }
     }
 
@@ -168,17 +174,16 @@ impl Edge {
         }
     }
 
-    // Filters the edge between two macroblocks of this number along it. (No picture is so wide that the bound is passed, but an edge does not know it.)
+    // Filters the edge between two macroblocks of this number along it. (No picture is so large that the bounds are passed, but an edge does not know it.)
     fn smooth_pair<S: Store>(self, store: &mut S, along: u16, quantizer: u8)
         ensures { let t = is_vertical self.direction in turn t (S.picture store.new) ≡ painted (edges self.plane (along * side self.plane) ((along + 1) * side self.plane) self.number (self.number + 1)) (smoothed (λ _ _ _. Some quantizer) (turn t (S.picture store.old)).sample) (turn t (S.picture store.old)) }
     {
         let width = side_of(self.plane);
         let from = along as usize * width;
-        match self.direction {
-            Direction::Horizontal if from + width <= 65535 => {
-                self.smooth_eights(store, from, width / 8, quantizer);
-            }
-            _ => self.smooth_places(store, along, quantizer),
+        if from + width <= 65535 && self.number * 8 <= 65535 {
+            self.smooth_squares(store, from, width / 8, quantizer);
+        } else {
+            self.smooth_places(store, along, quantizer);
         }
     }
 

@@ -32,7 +32,7 @@ pub extern "C" fn desktern_new(
     answer: &mut AnswerNumbers,
 )
     requires { reel.old.held ≡ None }
-    ensures begun { Begun (numbered format) transform reel.new.held answer.new }
+    ensures begun { Begun (numbered format) store transform reel.new.held answer.new }
     ensures left { reel.new.held ≡ None → reel.new ≡ reel.old }
 {
     match begin(heap, format, store, transform) {

@@ -9,7 +9,7 @@ use Rattle.call_lines.specs.declared.line.StoreKind.{StoreKind}
 use Rattle.call_lines.specs.declared.line.StoreKind.TheVariants as store
 use Rattle.call_lines.specs.declared.line.TransformKind.{TransformKind}
 use Rattle.call_lines.specs.declared.line.TransformKind.TheVariants as transform
-use Rattle.seats.specs.Seats.{blank, held_by}
+use Rattle.seats.specs.Seats.{blank, held_by, store_in}
 use Rattle.handles.specs.declared.answer.AnswerNumbers.{AnswerNumbers}
 use Rattle.handles.specs.declared.handle.ReelHandle.{ReelHandle}
 use Rattle.handles.specs.declared.loose.Loose.{Loose}
@@ -23,19 +23,20 @@ store_of n = cond (n == 1) store.Tiles store.Bytes
 abbrev pub transform_of : ℕ → TransformKind
 transform_of n = cond (n == 1) transform.Direct transform.TwoPass
 
--- behind a handle is a new reel of a format, with the transform of a number and a memory of zeros and absent marks
-pub record Fresh (f : Format) (number : ℕ) (h : ReelHandle) : Type 0 where
+-- behind a handle is a new reel of a format, with the store and the transform of two numbers and a memory of zeros and absent marks
+pub record Fresh (f : Format) (kind number : ℕ) (h : ReelHandle) : Type 0 where
   pub state : state_at h ≡ new (held_by h.kept.seat.memory)
   pub format : format_of h.kept.seat.stage ≡ f
+  pub store : store_in h.kept.seat.memory ≡ store_of kind
   pub transform : h.kept.seat.transform ≡ transform_of number
   pub blank : held_by h.kept.seat.memory ≡ blank (format_of h.kept.seat.stage)
 
 -- What is held then, and what is answered. A number that names no format is refused; and where memory fails nothing is held.
-abbrev pub Begun : Option Format → ℕ → Option ReelHandle → AnswerNumbers → Type 0
-Begun None number None a = a ≡ numbers_of (Refused fault.Format)
-Begun None number (Some h) a = ⊥
-Begun (Some format) number None a = a ≡ no_memory
-Begun (Some format) number (Some h) a = Fresh format number h × (a ≡ accepted 0 0)
+abbrev pub Begun : Option Format → ℕ → ℕ → Option ReelHandle → AnswerNumbers → Type 0
+Begun None kind number None a = a ≡ numbers_of (Refused fault.Format)
+Begun None kind number (Some h) a = ⊥
+Begun (Some format) kind number None a = a ≡ no_memory
+Begun (Some format) kind number (Some h) a = Fresh format kind number h × (a ≡ accepted 0 0)
 
 abbrev pub handle_in : {A : Type 0} → Result (Loose ReelHandle A) AnswerNumbers → Option ReelHandle
 handle_in (Ok l) = Some l.value

@@ -2,7 +2,7 @@
 ghost use Rattle.std.specs.Prelude.{◌≡◌, IfSome};
 ghost use Rattle.pictures.specs.Formats.{numbered};
 ghost use Rattle.replay.specs.declared.Stage.TheVariants.{Resting};
-ghost use Rattle.seats.specs.Seats.{blank, held_by};
+ghost use Rattle.seats.specs.Seats.{blank, held_by, store_in};
 ghost use Rattle.replay.specs.Stages.{format_of};
 ghost use Rattle.handles.specs.Begun.{Begun, answer_in, handle_in, store_of, transform_of};
 
@@ -57,6 +57,7 @@ fn seat(heap: Global, reel: Reel, choices: Choices) -> Option<Loose<ReelHandle, 
     ensures stage { IfSome result (λ l. l.value.kept.seat.stage ≡ Resting reel) }
     ensures transform { IfSome result (λ l. l.value.kept.seat.transform ≡ choices.transform) }
     ensures blank { IfSome result (λ l. held_by l.value.kept.seat.memory ≡ blank (format_of l.value.kept.seat.stage)) }
+    ensures store { IfSome result (λ l. store_in l.value.kept.seat.memory ≡ choices.store) }
 {
     let Ok(seat) = Seat::new(heap, reel, choices) else {
         return None;
@@ -73,7 +74,7 @@ pub fn begin(
     store: u32,
     transform: u32,
 ) -> Result<Loose<ReelHandle, Global>, AnswerNumbers>
-    ensures { Begun (numbered format) transform (handle_in result) (answer_in result) }
+    ensures { Begun (numbered format) store transform (handle_in result) (answer_in result) }
 {
     let reel = match Reel::new(format) {
         Ok(reel) => reel,

@@ -20,6 +20,12 @@ pub is_within : (columns rows p x y : ℕ) → Within columns rows p x y → ins
 unfolding inside
 is_within columns rows p x y w = simp (lt-ltb _ _ w.plane, lt-ltb _ _ w.across, lt-ltb _ _ w.down)
 
+-- what lies left of a place inside, or above it, is inside
+pub inside_before : (columns rows p x y u v : ℕ) → x ≤ u → y ≤ v → inside columns rows p u v ≡ true → inside columns rows p x y ≡ true
+inside_before columns rows p x y u v l m e =
+    let w = within columns rows p u v e in
+    is_within columns rows p x y (record { plane = w.plane; across = omega (arith, w.across); down = omega (arith, w.down) })
+
 -- a row and a column of a table of w columns are known from their place
 pub same_digits : (a b c d w : ℕ) → b < w → d < w → a * w + b ≡ c * w + d → (a ≡ c) × (b ≡ d)
 same_digits a b c d w l m e =
@@ -46,6 +52,20 @@ of_span p y left right q u v e = (grind (arith, nat_tests), grind (arith, nat_te
 one_place : (p x y q u v : ℕ) → span p y x (x + 1) q u v ≡ here p x y q u v
 unfolding span here
 one_place p x y q u v = grind (arith, nat_tests)
+
+-- a store that sets the cells of some places, and no others, paints these places
+pub paints_where : (columns rows : ℕ) (address : ℕ → ℕ → ℕ → ℕ) (cell after fresh : ℕ → ℕ) (places : ℕ → ℕ → ℕ → Bool) (new : ℕ → ℕ → ℕ → ℕ)
+    → ((q u v : ℕ) → Within columns rows q u v → after (address q u v) ≡ cond (places q u v) (fresh (address q u v)) (cell (address q u v)))
+    → ((q u v : ℕ) → inside columns rows q u v ≡ true → places q u v ≡ true → fresh (address q u v) ≡ new q u v)
+    → seen columns rows address after ≡ painted places new (seen columns rows address cell)
+paints_where columns rows address cell after fresh places new step is = same_picture _ _ refl refl (λ q u v. at q u v (inside columns rows q u v) refl (places q u v) refl)
+  where
+    at : (q u v : ℕ) (b : Bool) → inside columns rows q u v ≡ b → (d : Bool) → places q u v ≡ d
+        → cond (inside columns rows q u v) (after (address q u v)) 0
+        ≡ cond (inside columns rows q u v && places q u v) (new q u v) (cond (inside columns rows q u v) (cell (address q u v)) 0)
+    at q u v true i true d = simp (i, d) (step q u v (within columns rows q u v i) ∙ simp d (is q u v i d))
+    at q u v true i false d = simp (i, d) (step q u v (within columns rows q u v i) ∙ simp d)
+    at q u v false i b d = simp i
 
 module _ (columns rows : ℕ) (address : ℕ → ℕ → ℕ → ℕ) (apart : Apart columns rows address) where
   -- the places whose addresses lie in the run are the run's places
@@ -80,18 +100,9 @@ module _ (columns rows : ℕ) (address : ℕ → ℕ → ℕ → ℕ) (apart : A
       → ((a : ℕ) → after a ≡ cond (leb (address p x y) a && ltb a (address p x y + n)) (fresh a) (cell a))
       → ((q u v : ℕ) → inside columns rows q u v ≡ true → span p y x (x + n) q u v ≡ true → fresh (address q u v) ≡ new q u v)
       → seen columns rows address after ≡ painted (span p y x (x + n)) new (seen columns rows address cell)
-  paints_run cell after fresh new p x y n run step is = same_picture _ _ refl refl (λ q u v. at q u v (inside columns rows q u v) refl (span p y x (x + n) q u v) refl)
-    where
-      at : (q u v : ℕ) (b : Bool) → inside columns rows q u v ≡ b → (d : Bool) → span p y x (x + n) q u v ≡ d
-          → cond (inside columns rows q u v) (after (address q u v)) 0
-          ≡ cond (inside columns rows q u v && span p y x (x + n) q u v) (new q u v) (cond (inside columns rows q u v) (cell (address q u v)) 0)
-      at q u v true i true d =
-          let w = within columns rows q u v i in
-          simp (i, d) (step (address q u v) ∙ simp (in_run p x y n run q u v w, d) (is q u v i d))
-      at q u v true i false d =
-          let w = within columns rows q u v i in
-          simp (i, d) (step (address q u v) ∙ simp (in_run p x y n run q u v w, d))
-      at q u v false i b d = simp i
+  paints_run cell after fresh new p x y n run step is =
+      paints_where columns rows address cell after fresh (span p y x (x + n)) new
+      (λ q u v w. step (address q u v) ∙ ap (λ b. cond b (fresh (address q u v)) (cell (address q u v))) (in_run p x y n run q u v w)) is
 
   -- and one that sets the cell at one address writes as it should
   pub writes : (cell after : ℕ → ℕ) (p x y value : ℕ) → inside columns rows p x y ≡ true

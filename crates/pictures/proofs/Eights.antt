@@ -1,17 +1,11 @@
 -- Eight samples of a row, one after the other.
-use Rattle.std.proofs.Common.{◌≡◌, ℕ, ◌+◌, ◌-◌, ◌<◌, ◌≤◌, List, length, get_or, set, sym, ap, ◌∙◌, subst, arith, length-set}
-use Rattle.std.proofs.lemmas.List.Edits.{fill_by_more}
-use Rattle.pictures.specs.Pictures.{Picture, painted, painted_eight, span, written}
+use Rattle.std.proofs.Common.{◌≡◌, ℕ, ◌+◌, ◌-◌, ◌<◌, List, length, get_or, sym, ap, ◌∙◌, arith}
+use Rattle.pictures.specs.Pictures.{Picture, painted, span, written}
 use Rattle.pictures.proofs.Painting.{none, span_more, span_none, step}
 
--- a loop that writes f i at each place i of an array of eight
-abbrev pub Filled : (ℕ → ℕ) → ℕ → List ℕ → Type 0
-Filled f i xs = (length xs ≡ 8) × ((k : ℕ) → k < i → get_or xs k 0 ≡ f k)
-
-pub fill_step : (f : ℕ → ℕ) (i : ℕ) (xs : List ℕ) (v : ℕ) → i < 8 → v ≡ f i → Filled f i xs → Filled f (i + 1) (set xs i v)
-fill_step f i xs v h e (n, below) =
-    let P : ℕ → Type 0 = λ z. Filled f (i + 1) (set xs i z) in
-    subst P (sym e) (simp length-set n, fill_by_more f xs i 0 (omega arith) below)
+-- a loop that writes f k at each place k of an array of so many has come to place n
+abbrev pub FilledOf : ℕ → (ℕ → ℕ) → ℕ → List ℕ → Type 0
+FilledOf size f n xs = (length xs ≡ size) × ((k : ℕ) → k < n → get_or xs k 0 ≡ f k)
 
 -- the picture in which the first i of eight values are set
 abbrev pub set_so_far : Picture → ℕ → ℕ → ℕ → List ℕ → ℕ → Picture

@@ -1,5 +1,7 @@
 ghost use Rattle.std.specs.Prelude.{◌≡◌, ℕ, ◌<◌, ◌≤◌, if◌then◌else◌, false, IfSome};
-ghost use Rattle.pictures.specs.Pictures.{Eight, Picture, Square, has, inside, painted, painted_eight, painted_square, reading, side, span, start, written};
+ghost use Rattle.pictures.specs.Pictures.{Eight, Picture, Square, covers, has, inside, painted, painted_eight, painted_square, reading, side, span, start, written};
+
+use crate::layouts::Segment;
 
 // A store of a picture's samples, by its meaning: a size in macroblocks, which is fixed, and three planes. Code above relies on these
 // contracts and on no layout of memory.
@@ -161,6 +163,20 @@ pub trait Store {
         let copied = other.sample(plane, across, down);
         self.write(plane, across, down, copied);
         across + 1
+    }
+
+    // Sets the samples of a segment, in all planes, to one value, where the store has them together, and else none. Answers whether it did.
+    fn fill_together(&mut self, segment: Segment, value: u8) -> bool
+        ensures { picture self.new ≡ (if result then painted (covers segment) (λ _ _ _. value) (picture self.old) else picture self.old) }
+    {
+        false // not kept together
+    }
+
+    // Copies the samples of a segment, in all planes, from another store, where the two have them together, and else none. Answers whether it did.
+    fn copy_together(&mut self, other: &Self, segment: Segment) -> bool
+        ensures { picture self.new ≡ (if result then painted (covers segment) (picture other.now).sample (picture self.old) else picture self.old) }
+    {
+        false // kept otherwise
     }
 
     // Sets a row's samples from left to before right, those inside. (By `while`, since the store says with each run how far it came.)

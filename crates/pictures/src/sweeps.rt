@@ -63,6 +63,9 @@ fn sweep<S: Store, B: Brush<S>>(brush: &B, store: &mut S, segment: Segment)
 pub fn fill_segment<S: Store>(store: &mut S, segment: Segment, value: u8)
     ensures { S.picture store.new ≡ painted (covers segment) (λ _ _ _. value) (S.picture store.old) }
 {
+    if store.fill_together(segment, value) {
+        return;
+    }
     sweep(&Value(value), store, segment);
 }
 
@@ -70,6 +73,9 @@ pub fn fill_segment<S: Store>(store: &mut S, segment: Segment, value: u8)
 pub fn copy_segment<S: Store>(from: &S, to: &mut S, segment: Segment)
     ensures { S.picture to.new ≡ painted (covers segment) (S.picture from.now).sample (S.picture to.old) }
 {
+    if to.copy_together(from, segment) {
+        return;
+    }
     sweep(&Source(from), to, segment);
 }
 

@@ -1,6 +1,6 @@
 -- The lines of a script, batch after batch.
-use Rattle.std.proofs.Common.{◌≡◌, ℕ, ◌+◌, ◌-◌, ◌<◌, ◌≤◌, List, [], ◌∷◌, ◌++◌, length, get_or, take, drop, map, IsSome, IfOk, Global, Some, None, Ok, Err, Option, Result, String, string_bytes, codes, sym, refl, ap, ◌∙◌, subst, arith, true≢false}
-use Rattle.std.specs.Option.{option_map, is_some}
+use Rattle.std.proofs.Common.{◌≡◌, ℕ, ◌+◌, ◌-◌, ◌<◌, ◌≤◌, List, [], length, get_or, take, drop, map, IsSome, IfOk, Global, Some, None, Ok, Err, Option, Result, String, string_bytes, sym, refl, ap, ◌∙◌, subst, arith}
+use Rattle.std.specs.Option.{option_map}
 use Rattle.std.specs.Result.{result_ok}
 use Rattle.std.proofs.lemmas.List.{at_drop_more, drop_all}
 use Rattle.std.specs.declared.alloc.AllocError.{AllocError}
@@ -14,10 +14,10 @@ use Rattle.transcripts.specs.Told.{Tells, Told, told_by}
 use Rattle.seats.specs.declared.seat.Choices.{Choices}
 use Rattle.seats.specs.declared.seat.Seat.{Seat}
 use Rattle.seats.specs.Turns.{calls_in}
-use Rattle.player.specs.declared.playing.Gathering.TheVariants.{Joins, Ends, Interrupts}
+use Rattle.player.specs.declared.playing.Gathering.TheVariants.{Joins, Ends}
 use Rattle.player.specs.Gatherings.{gathering_of}
 use Rattle.player.specs.Plays.{Played, answers_to, calls_made, done, ended, leaving, line_played, lines_played, told_of}
-use Rattle.player.specs.Seen.{Plays, playing_in, seen}
+use Rattle.player.specs.Seen.{Plays, playing_in}
 use Rattle.transcripts.proofs.Telling.{tells_had}
 use Rattle.player.proofs.Batches.{Calling_or_blank, Gathered, Said, batch_played, ended_calls, gathered_calls, gathered_push, slice_push}
 use Rattle.player.proofs.Seeing.{Left, left_more, view}

@@ -1,5 +1,5 @@
 -- What lines come to, step after step.
-use Rattle.std.proofs.Common.{◌≡◌, ℕ, true, false, List, [], ◌∷◌, IsSome, Some, None, Option, Ok, sym, refl, ap, ◌∙◌, subst, string_bytes}
+use Rattle.std.proofs.Common.{◌≡◌, List, [], ◌∷◌, IsSome, Some, None, Option, Ok, sym, refl, ap, ◌∙◌, subst, string_bytes}
 use Rattle.std.specs.Option.{option_map}
 use Rattle.calls.specs.Runs.{Calling, Setting, State, run, step}
 use Rattle.call_lines.specs.declared.line.StoreKind.{StoreKind}

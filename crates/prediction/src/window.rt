@@ -1,4 +1,4 @@
-// Prediction of one sample. Coordinates are kept 64 above their value, so that they are never below 0 while they are moved.
+// Prediction of a square of samples. Coordinates are kept 64 above their value, so that they are never below 0 while they are moved.
 ghost use Rattle.std.specs.Prelude.{◌≡◌, ℕ, ◌+◌, ◌*◌, ◌/◌, ◌%◌, ◌<◌, ◌≤◌, ◌&&◌, true, false, ℤ, MatchOption, pos, ◌+ℤ◌, ◌-ℤ◌, nat_le, slice_index};
 ghost use Rattle.pictures.specs.Pictures.{side};
 ghost use Rattle.samples.specs.Prediction.{rounding_of};
@@ -6,7 +6,7 @@ ghost use Rattle.transform.specs.Sums.{floor};
 ghost use Rattle.prediction.specs.Window.{held, is_half, is_segment, prediction_at, window};
 
 use pictures::{Segment, Store, side_of};
-use samples::{Rounding, between_four, between_two, squares_between_four, squares_between_two};
+use samples::{Rounding, squares_between_four, squares_between_two};
 
 // A component's half samples, 128 above their value.
 fn half_steps(component: i8) -> usize
@@ -152,31 +152,7 @@ impl<S: Store> Window<'_, S> {
         square
     }
 
-    // The prediction at a place of a plane, for a vector of so many half samples across and down. (Not by the rule for four given neighbours: only
-    // those that count are read.)
-    pub fn predict(&self, plane: u8, x: usize, y: usize, across: i8, down: i8) -> u8
-        requires across { x ≤ 65535 }
-        requires down { y ≤ 65535 }
-        ensures { result ≡ prediction_at self.now.segment (rounding_of self.now.rounding) (S.picture self.now.finished.now).sample plane x y across down }
-    {
-        let u = moved(x, across);
-        let v = moved(y, down);
-        let here = self.sample(plane, u, v);
-        match (is_half(across), is_half(down)) {
-            (false, false) => here,
-            (true, false) => between_two(self.rounding, here, self.sample(plane, u + 1, v)),
-            (false, true) => between_two(self.rounding, here, self.sample(plane, u, v + 1)),
-            (true, true) => between_four(
-                self.rounding,
-                here,
-                self.sample(plane, u + 1, v),
-                self.sample(plane, u, v + 1),
-                self.sample(plane, u + 1, v + 1),
-            ),
-        }
-    }
-
-    // The predictions at the places of a square of 8 by 8, by rows.
+    // The predictions at the places of a square of 8 by 8, by rows, for a vector of so many half samples across and down. (Only the neighbours that count are read.)
     pub fn predict_square(&self, plane: u8, x: usize, y: usize, across: i8, down: i8) -> [u8; 64]
         requires across { x ≤ 65535 }
         requires down { y ≤ 65535 }

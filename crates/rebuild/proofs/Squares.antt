@@ -40,8 +40,7 @@ of_block p left top q u v e =
       low = grind (arith, nat_tests);
     }
 
-module _ (s : Segment) (rounding : ℕ) (picture : ℕ → ℕ → ℕ → ℕ) (source : Option Vector) (p left top : ℕ) (predictions : List ℕ) (q u v : ℕ) (e : block_at p left top q u v ≡ true)
-    (each : (k : ℕ) → k < 64 → get_or predictions k 0 ≡ predicted_from s rounding picture source p (left + k % 8) (top + k / 8)) where
+module _ (picture : ℕ → ℕ → ℕ → ℕ) (p left top : ℕ) (values : List ℕ) (q u v : ℕ) (e : block_at p left top q u v ≡ true) (each : (k : ℕ) → k < 64 → get_or values k 0 ≡ picture p (left + k % 8) (top + k / 8)) where
   -- the number of a place in its block
   abbrev number : ℕ
   number = 8 * (v - top) + (u - left)
@@ -49,21 +48,21 @@ module _ (s : Segment) (rounding : ℕ) (picture : ℕ → ℕ → ℕ → ℕ) 
   small : number < 64
   small = let a = of_block p left top q u v e in omega (arith, a.right, a.narrow, a.below, a.low)
 
-  -- the predictions are those of its places
-  block_predicted : get_or predictions number 0 ≡ predicted_from s rounding picture source q u v
-  block_predicted =
+  -- the values are those of its places
+  pub block_value : get_or values number 0 ≡ picture q u v
+  block_value =
       let a = of_block p left top q u v e in
       let x : left + number % 8 ≡ u = omega (arith, a.right, a.narrow, a.below, a.low) in
       let y : top + number / 8 ≡ v = omega (arith, a.right, a.narrow, a.below, a.low) in
-      each number small ∙ ap (λ m. predicted_from s rounding picture source m (left + number % 8) (top + number / 8)) a.plane
-      ∙ ap (λ m. predicted_from s rounding picture source q m (top + number / 8)) x ∙ ap (predicted_from s rounding picture source q u) y
+      each number small ∙ ap (λ m. picture m (left + number % 8) (top + number / 8)) a.plane
+      ∙ ap (λ m. picture q m (top + number / 8)) x ∙ ap (picture q u) y
 
-  -- and their sums with the residuals are the samples
-  pub block_summed : (residual : List ℤ) (sums : List ℕ) → left % 8 ≡ 0 → top % 8 ≡ 0
-      → ((k : ℕ) → k < 64 → get_or sums k 0 ≡ clipped (pos (get_or predictions k 0) +ℤ get_or residual k (pos 0)))
-      → get_or sums number 0 ≡ summed s rounding picture source residual q u v
+  -- and where they are predictions, their sums with the residuals are the samples
+  pub block_summed : (s : Segment) (rounding : ℕ) (of : ℕ → ℕ → ℕ → ℕ) (source : Option Vector) (residual : List ℤ) (sums : List ℕ) → picture ≡ predicted_from s rounding of source → left % 8 ≡ 0 → top % 8 ≡ 0
+      → ((k : ℕ) → k < 64 → get_or sums k 0 ≡ clipped (pos (get_or values k 0) +ℤ get_or residual k (pos 0)))
+      → get_or sums number 0 ≡ summed s rounding of source residual q u v
   unfolding summed
-  block_summed residual sums b c sum =
+  block_summed s rounding of source residual sums is b c sum =
       let a = of_block p left top q u v e in
       let there : 8 * (v % 8) + u % 8 ≡ number = omega (arith, a.right, a.narrow, a.below, a.low) in
-      rw (there, ← block_predicted) (sum number small)
+      rw (there, ← is, ← block_value) (sum number small)

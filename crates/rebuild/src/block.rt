@@ -51,3 +51,12 @@ pub fn rebuild_block<S: Store>(
     let BlockPlace { plane, left, top } = place;
     working.write_square(plane, left, top, &sums);
 }
+
+// Copies the samples of the block at a place, and no others.
+pub fn copy_block<S: Store>(finished: &S, working: &mut S, place: BlockPlace)
+    ensures { S.picture working.new ≡ painted (block_at place.plane place.left place.top) (S.picture finished.now).sample (S.picture working.old) }
+{
+    let BlockPlace { plane, left, top } = place;
+    let samples = finished.read_square(plane, left, top);
+    working.write_square(plane, left, top, &samples);
+}

@@ -5,11 +5,11 @@ ghost use Rattle.samples.specs.Prediction.{rounding_of};
 ghost use Rattle.rebuild.specs.Blocks.{values_of};
 ghost use Rattle.rebuild.specs.Macroblocks.{coded_sample, coefficients_of, component_for, macroblock_at, macroblock_sample, residual_of, source_for};
 
-use crate::block::rebuild_block;
+use crate::block::{copy_block, rebuild_block};
 use crate::places::MacroblockPlace;
 use crate::rebuilder::Rebuilder;
 use motion::vectors::Vector;
-use pictures::{Segment, Store, copy_segment};
+use pictures::Store;
 use records::is_coded;
 use records::types::{Block, Macroblock};
 use samples::chroma_component;
@@ -39,21 +39,22 @@ fn source_for(macroblock: &Macroblock, vector: Vector, plane: u8) -> Option<Vect
     }
 }
 
-// Copies the samples of the macroblock at a place, and no others.
+// Copies the samples of the macroblock at a place, and no others: at once where the store has them together, and else block by block.
 fn copy_macroblock<S: Store>(finished: &S, working: &mut S, place: MacroblockPlace)
     ensures { S.picture working.new ≡ painted (macroblock_at place.column place.row) (S.picture finished.now).sample (S.picture working.old) }
 {
-    let MacroblockPlace { column, row } = place;
-    copy_segment(
-        finished,
-        working,
-        Segment {
-            left: column,
-            right: column + 1,
-            top: row,
-            bottom: row + 1,
-        },
-    );
+    if working.copy_together(finished, place.segment()) {
+        return;
+    }
+    copy_blocks(finished, working, place);
+}
+
+fn copy_blocks<S: Store>(finished: &S, working: &mut S, place: MacroblockPlace)
+    ensures { S.picture working.new ≡ painted (macroblock_at place.column place.row) (S.picture finished.now).sample (S.picture working.old) }
+{
+    for block in 0..6 {
+        copy_block(finished, working, place.block(block));
+    }
 }
 
 // The results of the transform for a block.

@@ -1,6 +1,8 @@
 // Where the samples of macroblocks and blocks lie. (The bounds are those of the largest picture, and far below what a machine word holds.)
 ghost use Rattle.std.specs.Prelude.{◌≡◌, ◌%◌, ◌<◌, ◌≤◌};
-ghost use Rattle.rebuild.specs.Macroblocks.{left_in, plane_of, top_in};
+ghost use Rattle.rebuild.specs.Macroblocks.{left_in, plane_of, segment_of, top_in};
+
+use pictures::Segment;
 
 // The plane of a block, and where its samples begin.
 #[derive(Clone, Copy)]
@@ -24,6 +26,18 @@ pub struct MacroblockPlace {
 }
 
 impl MacroblockPlace {
+    // The macroblock as a segment of one.
+    pub(crate) fn segment(self) -> Segment
+        ensures { result ≡ segment_of self.column self.row }
+    {
+        Segment {
+            left: self.column,
+            right: self.column + 1,
+            top: self.row,
+            bottom: self.row + 1,
+        }
+    }
+
     // The place of one of the macroblock's six blocks.
     pub(crate) fn block(self, block: u8) -> BlockPlace
         requires { block < 6 }

@@ -3,6 +3,11 @@
 #![tactic(auto)]
 
 ghost use Rattle.std.specs.Prelude.{◌≡◌};
+ghost use Rattle.calls.specs.Held.{fits};
+ghost use Rattle.calls.specs.Questions.{judge_opening};
+ghost use Rattle.reel.specs.Calls.{opened};
+ghost use Rattle.reel.specs.Memories.{held_in};
+ghost use Rattle.reel_tests.specs.Recorded.{recorded, rested};
 
 use pictures::Store;
 use reel::memory::Memory;
@@ -21,7 +26,8 @@ pub fn record_picture<S: Store, T: Transform>(
     kind: u32,
     bytes: &[u8],
 ) -> Reel
-    ensures { result.format ≡ reel.format }
+    ensures reel { result ≡ rested bytes.now (held_in S.picture memory.old) (opened reel kind 0 1 (judge_opening (fits reel.format (held_in S.picture memory.old)) reel.format reel.pictures reel.finished kind 0 1)) }
+    ensures memory { held_in S.picture memory.new ≡ recorded (T.meaning transform.now) bytes.now (held_in S.picture memory.old) (opened reel kind 0 1 (judge_opening (fits reel.format (held_in S.picture memory.old)) reel.format reel.pictures reel.finished kind 0 1)) }
 {
     match reel.open(memory, kind, 0, 1) {
         Ok((slip, _)) => {

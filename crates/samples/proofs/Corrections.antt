@@ -1,12 +1,12 @@
 -- The filter's signed corrections by their sizes and by which side is greater. Assumes nothing.
-use Rattle.std.proofs.Common.{◌≡◌, ℕ, zero, suc, ◌+◌, ◌-◌, ◌*◌, ◌/◌, ◌<◌, ◌≤◌, min, ℤ, pos, negsuc, ◌+ℤ◌, ◌-ℤ◌, neg_ℤ, nat_abs, sym, refl, ap, ◌∙◌, inl, inr, arith}
+use Rattle.std.proofs.Common.{◌≡◌, ℕ, zero, suc, ◌+◌, ◌-◌, ◌*◌, ◌/◌, ◌<◌, ◌≤◌, min, cond, not, leb, ltb, ℤ, pos, negsuc, ◌+ℤ◌, ◌-ℤ◌, neg_ℤ, nat_abs, sym, refl, ap, ◌∙◌, inl, inr, arith}
 use Rattle.std.proofs.lemmas.Int.{ints, clamps}
 use Rattle.std.proofs.lemmas.Bool.Decides.{leb_tells}
 use Rattle.transform.specs.Signs.{with_sign}
 use Rattle.transform.specs.Sums.{brought}
 use Rattle.transform.proofs.Sizes.{abs_neg}
 use Rattle.samples.specs.Clipping.{clipped}
-use Rattle.samples.specs.Deblocking.{deblocked, quotient, step_of, inner_of, outer_of, new_a, new_d}
+use Rattle.samples.specs.Deblocking.{quotient, step_of, inner_of, outer_of, new_a, new_d}
 use Rattle.samples.specs.declared.deblocking.Four.{Four}
 
 abs_sign : (z : ℤ) (n : ℕ) → nat_abs (with_sign z n) ≡ n
@@ -78,34 +78,34 @@ unfolding with_sign
 ramped s zero = let e : ramp s 0 ≡ 0 = omega arith in ap pos e ∙ ap (λ n. neg_ℤ (pos n)) (sym e)
 ramped s (suc m) = refl
 
-pub inner_up : (s : ℕ) (f : Four) → down f ≤ up f → inner_of s f ≡ pos (nat_abs (inner_of s f))
+inner_up : (s : ℕ) (f : Four) → down f ≤ up f → inner_of s f ≡ pos (nat_abs (inner_of s f))
 unfolding inner_of
 inner_up s f h = let q = sign_pos (step_of f) _ (ramp s (nat_abs (step_of f))) (step_up f h) in q ∙ ap (λ z. pos (nat_abs z)) (sym q)
 
-pub inner_down : (s : ℕ) (f : Four) → up f < down f → inner_of s f ≡ neg_ℤ (pos (nat_abs (inner_of s f)))
+inner_down : (s : ℕ) (f : Four) → up f < down f → inner_of s f ≡ neg_ℤ (pos (nat_abs (inner_of s f)))
 unfolding inner_of
 inner_down s f h =
     ap (λ z. with_sign z (ramp s (nat_abs (step_of f)))) (step_down f h) ∙ ramped s (nat_abs (step_of f))
     ∙ ap (λ n. neg_ℤ (pos n)) (sym (abs_sign (step_of f) (ramp s (nat_abs (step_of f)))))
 
 -- ---- b and c, raised or lowered by n
-pub up_raised : (b n : ℕ) (z : ℤ) → z ≡ pos n → min (b + n) 255 ≡ clipped (pos b +ℤ z)
+up_raised : (b n : ℕ) (z : ℤ) → z ≡ pos n → min (b + n) 255 ≡ clipped (pos b +ℤ z)
 up_raised b n z e = ap (λ y. clipped (pos b +ℤ y)) (sym e)
 
 clipped_sub : (c n : ℕ) (z : ℤ) → c < 256 → z ≡ pos c -ℤ pos n → c - n ≡ clipped z
 clipped_sub c n (pos k) h e = omega (arith, ints)
 clipped_sub c n (negsuc k) h e = omega (arith, ints)
 
-pub up_lowered : (c n : ℕ) (z : ℤ) → c < 256 → z ≡ pos n → c - n ≡ clipped (pos c -ℤ z)
+up_lowered : (c n : ℕ) (z : ℤ) → c < 256 → z ≡ pos n → c - n ≡ clipped (pos c -ℤ z)
 up_lowered c n z h e = clipped_sub c n _ h (ap (λ y. pos c -ℤ y) e)
 
-pub down_lowered : (b n : ℕ) (z : ℤ) → b < 256 → z ≡ neg_ℤ (pos n) → b - n ≡ clipped (pos b +ℤ z)
+down_lowered : (b n : ℕ) (z : ℤ) → b < 256 → z ≡ neg_ℤ (pos n) → b - n ≡ clipped (pos b +ℤ z)
 down_lowered b n z h e = clipped_sub b n _ h (ap (λ y. pos b +ℤ y) e)
 
 clipped_add : (c n : ℕ) (z : ℤ) → z ≡ pos (c + n) → min (c + n) 255 ≡ clipped z
 clipped_add c n z e = ap clipped (sym e)
 
-pub down_raised : (c n : ℕ) (z : ℤ) → z ≡ neg_ℤ (pos n) → min (c + n) 255 ≡ clipped (pos c -ℤ z)
+down_raised : (c n : ℕ) (z : ℤ) → z ≡ neg_ℤ (pos n) → min (c + n) 255 ≡ clipped (pos c -ℤ z)
 down_raised c n z e = clipped_add c n _ (omega (arith, ints))
 
 -- ---- d2: the size and the sign
@@ -139,47 +139,40 @@ outer_down s f h =
 pub outer_size_lem : (s : ℕ) (f : Four) → nat_abs (outer_of s f) ≡ outer_size s f
 outer_size_lem s f = elim (leb_tells f.d f.a) [ inl h ↦ ap nat_abs (outer_up s f h.1) | inr h ↦ ap nat_abs (outer_down s f h.1) ∙ abs_neg _ ]
 
-pub outer_bound : (s : ℕ) (f : Four) → nat_abs (outer_of s f) ≤ apart f.a f.d
+outer_bound : (s : ℕ) (f : Four) → nat_abs (outer_of s f) ≤ apart f.a f.d
 outer_bound s f = let e = outer_size_lem s f in omega arith
 
 -- ---- a and d, which move towards each other by n
-pub new_up : (s : ℕ) (f : Four) (n : ℕ) → n ≡ nat_abs (outer_of s f) → f.d ≤ f.a → (pos (f.a - n) ≡ new_a s f) × (pos (f.d + n) ≡ new_d s f)
+new_up : (s : ℕ) (f : Four) (n : ℕ) → n ≡ nat_abs (outer_of s f) → f.d ≤ f.a → (pos (f.a - n) ≡ new_a s f) × (pos (f.d + n) ≡ new_d s f)
 unfolding new_a new_d
 new_up s f n e h =
     let is = outer_up s f h in let size = outer_size_lem s f in let bound = outer_bound s f in
     (omega (arith, ints), omega (arith, ints))
 
-pub new_down : (s : ℕ) (f : Four) (n : ℕ) → n ≡ nat_abs (outer_of s f) → f.a < f.d → (pos (f.a + n) ≡ new_a s f) × (pos (f.d - n) ≡ new_d s f)
+new_down : (s : ℕ) (f : Four) (n : ℕ) → n ≡ nat_abs (outer_of s f) → f.a < f.d → (pos (f.a + n) ≡ new_a s f) × (pos (f.d - n) ≡ new_d s f)
 unfolding new_a new_d
 new_down s f n e h =
     let is = outer_down s f h in let size = outer_size_lem s f in let bound = outer_bound s f in
     (omega (arith, ints), omega (arith, ints))
 
--- ---- where the inner samples are not corrected, none is
-none_left : (z : ℤ) → nat_abs z ≡ 0 → z ≡ pos 0
-none_left (pos n) e = ap pos e
-none_left (negsuc n) e = absurd (omega arith)
+-- ---- the new samples, each raised or lowered by n
+pub inner_moved : (s : ℕ) (f : Four) (n u d : ℕ) → n ≡ nat_abs (inner_of s f) → u ≡ up f → d ≡ down f → f.b < 256 → f.c < 256
+    → (cond (leb d u) (min (f.b + n) 255) (f.b - n) ≡ clipped (pos f.b +ℤ inner_of s f)) × (cond (not (leb d u)) (min (f.c + n) 255) (f.c - n) ≡ clipped (pos f.c -ℤ inner_of s f))
+inner_moved s f n u d e i j hb hc =
+    elim (leb_tells d u) [
+      | inl h ↦ let is : inner_of s f ≡ pos n = inner_up s f (omega (arith, h.1)) ∙ ap pos (sym e) in
+          simp (h.0) (up_raised _ _ _ is, up_lowered _ _ _ hc is)
+      | inr h ↦ let is : inner_of s f ≡ neg_ℤ (pos n) = inner_down s f (omega (arith, h.1)) ∙ ap (λ n. neg_ℤ (pos n)) (sym e) in
+          simp (h.0) (down_lowered _ _ _ hb is, down_raised _ _ _ is)
+    ]
 
-pub kept : (s : ℕ) (f : Four) → f.b < 256 → f.c < 256 → 0 ≡ nat_abs (inner_of s f) → deblocked s f ≡ f
-unfolding new_a new_d
-kept s f hb hc e =
-    let inner : inner_of s f ≡ pos 0 = none_left (inner_of s f) (sym e) in
-    let size = outer_size_lem s f in
-    let outer : outer_of s f ≡ pos 0 = none_left (outer_of s f) (omega arith) in
-    let a : nat_abs (pos f.a -ℤ outer_of s f) ≡ f.a = ap (λ z. nat_abs (pos f.a -ℤ z)) outer ∙ same_size f.a in
-    let b : clipped (pos f.b +ℤ inner_of s f) ≡ f.b = ap (λ z. clipped (pos f.b +ℤ z)) inner ∙ same_plus f.b hb in
-    let c : clipped (pos f.c -ℤ inner_of s f) ≡ f.c = ap (λ z. clipped (pos f.c -ℤ z)) inner ∙ same_less f.c hc in
-    let d : nat_abs (pos f.d +ℤ outer_of s f) ≡ f.d = ap (λ z. nat_abs (pos f.d +ℤ z)) outer ∙ same_more f.d in
-    λ i. record { a = a i; b = b i; c = c i; d = d i }
-  where
-    same_size : (n : ℕ) → nat_abs (pos n -ℤ pos 0) ≡ n
-    same_size n = omega (arith, ints)
-
-    same_more : (n : ℕ) → nat_abs (pos n +ℤ pos 0) ≡ n
-    same_more n = omega (arith, ints)
-
-    same_plus : (n : ℕ) → n < 256 → clipped (pos n +ℤ pos 0) ≡ n
-    same_plus n h = let m : min (n + 0) 255 ≡ n = omega arith in m
-
-    same_less : (n : ℕ) → n < 256 → clipped (pos n -ℤ pos 0) ≡ n
-    same_less n h = sym (clipped_sub n 0 (pos n -ℤ pos 0) h refl) ∙ (let m : n - 0 ≡ n = omega arith in m)
+pub outer_moved : (s : ℕ) (f : Four) (n : ℕ) → n ≡ nat_abs (outer_of s f) → f.a < 256 → f.d < 256
+    → (pos (cond (ltb f.a f.d) (min (f.a + n) 255) (f.a - n)) ≡ new_a s f) × (pos (cond (not (ltb f.a f.d)) (min (f.d + n) 255) (f.d - n)) ≡ new_d s f)
+outer_moved s f n e ha hd =
+    let bound = outer_bound s f in
+    elim (leb_tells (suc f.a) f.d) [
+      | inl h ↦ let w = new_down s f n e (omega (arith, h.1)) in let z : min (f.a + n) 255 ≡ f.a + n = omega (arith, h.1) in
+          simp (h.0, z) w
+      | inr h ↦ let w = new_up s f n e (omega (arith, h.1)) in let z : min (f.d + n) 255 ≡ f.d + n = omega (arith, h.1) in
+          simp (h.0, z) w
+    ]

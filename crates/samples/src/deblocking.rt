@@ -1,6 +1,6 @@
 // The deblocking filter of four samples over an edge of two blocks, and of eight such fours beside each other. The rule has signed corrections; the code has
 // their sizes and goes by which side is greater, so that all of it is unsigned.
-ghost use Rattle.std.specs.Prelude.{◌≡◌, ℕ, true, ◌<◌, ◌+◌, ◌*◌, pos, ◌+ℤ◌, ◌-ℤ◌, unsigned_abs};
+ghost use Rattle.std.specs.Prelude.{◌≡◌, ℕ, true, if◌then◌else◌, ◌<◌, ◌+◌, ◌-◌, ◌*◌, min, pos, ◌+ℤ◌, ◌-ℤ◌, unsigned_abs};
 ghost use Rattle.samples.specs.Clipping.{clipped};
 ghost use Rattle.samples.specs.Deblocking.{deblocked, four_at, inner_of, new_a, new_d, outer_of, strength_of};
 
@@ -34,11 +34,20 @@ pub struct Four {
     pub d: u8,
 }
 
+// A sample raised or lowered, and held from 0 to 255. (Both are worked out and one is taken, so that eight of them go side by side.)
+fn moved(sample: u8, by: u8, is_up: bool) -> u8
+    ensures { result ≡ (if is_up then min (sample + by) 255 else sample - by) }
+{
+    let raised = sample.saturating_add(by);
+    let lowered = sample.saturating_sub(by);
+    if is_up { raised } else { lowered }
+}
+
 impl Four {
     // What stands for a step up over the edge, and for a step down.
-    fn steps(self) -> (u16, u16)
-        ensures up { result.0 ≡ self.a + 4 * self.c }
-        ensures down { result.1 ≡ 4 * self.b + self.d }
+    fn steps(&self) -> (u16, u16)
+        ensures up { result.0 ≡ self.now.a + 4 * self.now.c }
+        ensures down { result.1 ≡ 4 * self.now.b + self.now.d }
     {
         let up = u16::from(self.a) + 4 * u16::from(self.c);
         let down = 4 * u16::from(self.b) + u16::from(self.d);
@@ -46,8 +55,8 @@ impl Four {
     }
 
     // How far the inner samples are corrected.
-    fn inner(self, strength: u8) -> u8
-        ensures { result ≡ unsigned_abs (inner_of strength self) }
+    fn inner(&self, strength: u8) -> u8
+        ensures { result ≡ unsigned_abs (inner_of strength self.now) }
     {
         let (up, down) = self.steps();
         let size = up.abs_diff(down) / 8;
@@ -55,38 +64,42 @@ impl Four {
     }
 
     // How far the outer samples are corrected.
-    fn outer(self, strength: u8) -> u8
-        ensures { result ≡ unsigned_abs (outer_of strength self) }
+    fn outer(&self, strength: u8) -> u8
+        ensures { result ≡ unsigned_abs (outer_of strength self.now) }
     {
         (self.a.abs_diff(self.d) / 4).min(self.inner(strength) / 2)
     }
 
     // The new `b` and `c`.
-    fn inner_samples(self, strength: u8) -> (u8, u8)
-        ensures b { result.0 ≡ clipped (pos self.b +ℤ inner_of strength self) }
-        ensures c { result.1 ≡ clipped (pos self.c -ℤ inner_of strength self) }
+    fn inner_samples(&self, strength: u8) -> (u8, u8)
+        ensures b { result.0 ≡ clipped (pos self.now.b +ℤ inner_of strength self.now) }
+        ensures c { result.1 ≡ clipped (pos self.now.c -ℤ inner_of strength self.now) }
     {
         let by = self.inner(strength);
         let (up, down) = self.steps();
-        if down <= up {
-            (self.b.saturating_add(by), self.c.saturating_sub(by))
-        } else {
-            (self.b.saturating_sub(by), self.c.saturating_add(by))
-        }
+        let is_up = down <= up;
+        (moved(self.b, by, is_up), moved(self.c, by, !is_up))
     }
 
     // The new `a` and `d`, which move towards each other and so stay from 0 to 255.
-    fn outer_samples(self, strength: u8) -> (u8, u8)
-        ensures a { pos result.0 ≡ new_a strength self }
-        ensures d { pos result.1 ≡ new_d strength self }
+    fn outer_samples(&self, strength: u8) -> (u8, u8)
+        ensures a { pos result.0 ≡ new_a strength self.now }
+        ensures d { pos result.1 ≡ new_d strength self.now }
     {
         let by = self.outer(strength);
-        if self.d <= self.a {
-            (self.a - by, self.d + by)
-        } else {
-            (self.a + by, self.d - by)
-        }
+        let is_up = self.a < self.d;
+        (moved(self.a, by, is_up), moved(self.d, by, !is_up))
     }
+}
+
+// The four samples after the filter, at this strength. (Lent and not copied, since four bytes that are copied become one number, and are taken apart again.)
+fn deblock_at(strength: u8, four: &Four) -> Four
+    ensures value { result ≡ deblocked strength four.now }
+    ensures unclipped { (pos result.a ≡ new_a strength four.now) × (pos result.d ≡ new_d strength four.now) }
+{
+    let (a, d) = four.outer_samples(strength);
+    let (b, c) = four.inner_samples(strength);
+    Four { a, b, c, d }
 }
 
 // The four samples after the filter, at the strength for a macroblock's quantizer.
@@ -94,17 +107,7 @@ pub fn deblock(quantizer: u8, four: Four) -> Four
     ensures value { result ≡ deblocked (strength_of quantizer) four }
     ensures unclipped { (pos result.a ≡ new_a (strength_of quantizer) four) × (pos result.d ≡ new_d (strength_of quantizer) four) }
 {
-    let strength = strength_of(quantizer);
-    let (a, d) = four.outer_samples(strength);
-    let (b, c) = four.inner_samples(strength);
-    Four { a, b, c, d }
-}
-
-// Whether the filter leaves four samples as they are for sure: where it does not correct the inner ones, it does not correct the outer ones.
-pub fn is_kept(quantizer: u8, four: Four) -> bool
-    ensures { result ≡ true → deblocked (strength_of quantizer) four ≡ four }
-{
-    four.inner(strength_of(quantizer)) == 0
+    deblock_at(strength_of(quantizer), &four)
 }
 
 // The samples at eight places along an edge, by rows: `a` and `b` before it, `c` and `d` after it.
@@ -120,6 +123,7 @@ pub struct FourRows {
 pub fn deblock_rows(quantizer: u8, rows: &FourRows) -> FourRows
     ensures { (i : ℕ) → i < 8 → four_at result i ≡ deblocked (strength_of quantizer) (four_at rows.now i) }
 {
+    let strength = strength_of(quantizer);
     let (mut a, mut b, mut c, mut d) = ([0; 8], [0; 8], [0; 8], [0; 8]);
     for i in 0..8 {
         let four = Four {
@@ -128,7 +132,7 @@ pub fn deblock_rows(quantizer: u8, rows: &FourRows) -> FourRows
             c: rows.c[i],
             d: rows.d[i],
         };
-        let new = deblock(quantizer, four);
+        let new = deblock_at(strength, &four);
         a[i] = new.a;
         b[i] = new.b;
         c[i] = new.c;

@@ -1,16 +1,12 @@
 -- New memory holds zeros.
-use Rattle.std.proofs.Common.{◌≡◌, ℕ, zero, suc, ◌+◌, ◌*◌, ◌/◌, ◌%◌, Bool, true, false, cond, List, [], ◌∷◌, length, replicate, slice_index, vec_items, sym, refl, ap, ◌∙◌}
+use Rattle.std.proofs.Common.{◌≡◌, ℕ, zero, suc, ◌/◌, ◌%◌, Bool, true, false, cond, List, replicate, slice_index, refl, ap, ◌∙◌}
 use Rattle.pictures.specs.declared.formats.Format.{Format}
-use Rattle.pictures.specs.declared.formats.Format.TheVariants.{SubQcif, Qcif, Cif}
 use Rattle.pictures.specs.Formats.{columns_of, rows_of}
-use Rattle.pictures.specs.Pictures.{Picture, inside}
+use Rattle.pictures.specs.Pictures.{inside}
 use Rattle.pictures.proofs.Painting.{same_picture}
 use Rattle.stores.specs.Bytes.{bytes_seen}
 use Rattle.stores.specs.Tiles.{four, tile_address, tiles_seen}
-use Rattle.calls.specs.Held.{Held, fits}
-use Rattle.reel.specs.declared.memory.Memory.{Memory}
-use Rattle.reel.specs.Memories.{held_in}
-use Rattle.seats.specs.Seats.{Tabled, blank, blank_picture}
+use Rattle.seats.specs.Seats.{blank_picture}
 
 all_zero : (n i : ℕ) → slice_index (replicate n 0) i ≡ 0
 all_zero zero i = refl
@@ -29,12 +25,3 @@ lanes n i k = ap (λ word. slice_index (four word) k) (all_zero n i) ∙ all_zer
 
 pub blank_tiles : (format : Format) (columns rows n : ℕ) (words : List ℕ) → columns ≡ columns_of format → rows ≡ rows_of format → words ≡ replicate n 0 → tiles_seen columns rows words ≡ blank_picture format
 blank_tiles format columns rows n words c r b = same_picture _ _ c r (λ p x y. either (inside columns rows p x y) _ (rw b (lanes n (tile_address columns p x y / 4) (tile_address columns p x y % 4))))
-
-pub blank_fits : (format : Format) → fits format (blank format) ≡ true
-blank_fits SubQcif = refl
-blank_fits Qcif = refl
-blank_fits Cif = refl
-
-pub blank_tables : {S : Type 0} (picture : S → Picture) (format : Format) (finished working : S) (m : Memory S) → Tabled format finished working m
-    → picture finished ≡ blank_picture format → picture working ≡ blank_picture format → held_in picture m ≡ blank format
-blank_tables picture format finished working m t f w = rw (t.first, t.second, f, w, t.finished_ages, t.working_ages, t.vectors, t.marks)

@@ -1,10 +1,10 @@
 -- Answers that are told when all calls were made are those that are told call by call.
-use Rattle.std.proofs.Common.{◌≡◌, ℕ, suc, ◌+◌, ◌*◌, ◌-◌, List, [], ◌∷◌, length, take, drop, true, false, Bool, ◌&&◌, ℤ, Ok, Err, Result, Option, sym, refl, ap, ◌∙◌, true≢false, add-one, arith}
+use Rattle.std.proofs.Common.{◌≡◌, ℕ, suc, ◌+◌, ◌*◌, ◌-◌, List, [], ◌∷◌, length, take, drop, true, Bool, ℤ, Ok, Err, Result, sym, refl, ap, ◌∙◌, true≢false, add-one, arith}
 use Rattle.records.specs.declared.types.Macroblock.{Macroblock}
 use Rattle.calls.specs.declared.answers.Answer.{Answer}
-use Rattle.calls.specs.declared.answers.Answer.TheVariants.{Opened, Delivered, Closed, Sample, Age, Refused, OutOfTurn}
+use Rattle.calls.specs.declared.answers.Answer.TheVariants.{Closed}
 use Rattle.calls.specs.declared.faults.PictureFault.{PictureFault}
-use Rattle.calls.specs.Held.{Held, fits, fits_rest, fits_store, fits_table}
+use Rattle.calls.specs.Held.{Held, fits}
 use Rattle.calls.specs.Questions.{judge_age, judge_closing, judge_delivery, judge_opening, judge_sample}
 use Rattle.calls.specs.Runs as runs
 use Rattle.calls.specs.Runs.{Calling, Contents, Control, Setting, State, answer, asking_age, asking_sample, closing, control, delivered, delivering, open_to, opening, replies, reply, resting, run, setting_of, step}

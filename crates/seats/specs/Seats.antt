@@ -14,6 +14,8 @@ use Rattle.reel.specs.declared.memory.Memory.{Memory}
 use Rattle.replay.specs.declared.Stage.{Stage}
 use Rattle.reel.specs.Memories.{held_in}
 use Rattle.replay.specs.Stages.{format_of, setting_at, state_of}
+use Rattle.call_lines.specs.declared.line.StoreKind.{StoreKind}
+use Rattle.call_lines.specs.declared.line.StoreKind.TheVariants as store
 use Rattle.call_lines.specs.declared.line.TransformKind.{TransformKind}
 use Rattle.call_lines.specs.declared.line.TransformKind.TheVariants.{TwoPass, Direct}
 use Rattle.transcripts.specs.declared.sums.PictureSums.{PictureSums}
@@ -24,6 +26,11 @@ use Rattle.seats.specs.declared.memories.StoredMemory.TheVariants.{Bytes, Tiles}
 abbrev pub held_by : StoredMemory → Held
 held_by (Bytes m) = held_in (λ s. bytes_seen s.size.columns s.size.rows (vec_items s.memory)) m
 held_by (Tiles m) = held_in (λ s. tiles_seen s.size.columns s.size.rows (vec_items s.memory)) m
+
+-- the store that a memory keeps its samples in
+abbrev pub store_in : StoredMemory → StoreKind
+store_in (Bytes m) = store.Bytes
+store_in (Tiles m) = store.Tiles
 
 -- the memory has the reel's size
 abbrev pub seated : Stage → StoredMemory → Bool

@@ -6,9 +6,10 @@ ghost use Rattle.calls.specs.Runs.{asking_age, call_of, calls_of, reply, run};
 ghost use Rattle.call_lines.specs.Lines.{told};
 ghost use Rattle.replay.specs.Stages.{format_of, setting_at, state_of};
 ghost use Rattle.replay.specs.declared.Stage.TheVariants.{Resting};
+ghost use Rattle.transcripts.specs.Tallies.{is_refused, one_more, one_more_if};
 ghost use Rattle.transcripts.specs.Told.{Tells};
 ghost use Rattle.seats.specs.Copies.{laid_over, plane_samples, plane_size};
-ghost use Rattle.seats.specs.Seats.{Ran, blank, held_by, meaning_of, seated};
+ghost use Rattle.seats.specs.Seats.{Ran, blank, held_by, meaning_of, seated, store_in};
 ghost use Rattle.seats.specs.Steps.{Turned, setting_in, state_in};
 ghost use Rattle.seats.specs.Tellings.{ClosesLast, miss_calls, miss_line, tell_ages, tell_answer, tell_answers, tell_calls, tell_leaving, tell_rows, told_age};
 ghost use Rattle.seats.specs.Turns.{call_in, calls_in};
@@ -110,7 +111,7 @@ fn tell(calls: &[Call], answers: &[Answer], memory: &StoredMemory, transcript: &
     }
 }
 
-// Makes the calls of some lines, of which none but the last is a closing, and tells the answers.
+// Makes the calls of some lines, and tells the answers: as call by call, where none but the last is a closing.
 fn replay_lines(
     stage: Stage,
     memory: &mut StoredMemory,
@@ -119,12 +120,11 @@ fn replay_lines(
     lines: &[Said],
     transcript: &mut Transcript,
 ) -> Stage
-    requires seated { seated stage memory.old ≡ true }
-    requires closing { ClosesLast (calls_in lines.now) }
+    requires { seated stage memory.old ≡ true }
     ensures size { seated result memory.new ≡ true }
     ensures format { format_of result ≡ format_of stage }
     ensures runs { IsSome transcript.new.text → Ran transform stage (held_by memory.old) (calls_in lines.now) result (held_by memory.new) }
-    ensures told { Tells (tell_calls (setting_at stage (meaning_of transform) (held_by memory.old)) (state_of stage (held_by memory.old)) (calls_in lines.now)) transcript.old transcript.new }
+    ensures told { ClosesLast (calls_in lines.now) → Tells (tell_calls (setting_at stage (meaning_of transform) (held_by memory.old)) (state_of stage (held_by memory.old)) (calls_in lines.now)) transcript.old transcript.new }
 {
     let Ok(calls) = calls_of(heap, lines) else {
         transcript.fall_short();
@@ -147,6 +147,7 @@ impl Seat {
     pub fn new(heap: Global, reel: Reel, choices: Choices) -> Result<Seat, AllocError>
         ensures seated { IfOk result (λ s. (s.stage ≡ Resting reel) × (s.transform ≡ choices.transform)) }
         ensures blank { IfOk result (λ s. held_by s.memory ≡ blank reel.format) }
+        ensures store { IfOk result (λ s. store_in s.memory ≡ choices.store) }
     {
         let memory = StoredMemory::new(heap, choices.store, reel.format())?;
         Ok(Seat {
@@ -156,12 +157,12 @@ impl Seat {
         })
     }
 
-    // Makes the calls of some lines, of which none but the last is a closing, and tells the answers.
+    // Makes the calls of some lines, and tells the answers: as call by call, where none but the last is a closing.
     pub fn make_calls(self, heap: Global, lines: &[Said], transcript: &mut Transcript) -> Seat
-        requires { ClosesLast (calls_in lines.now) }
         ensures runs { IsSome transcript.new.text → state_in result ≡ run (setting_in self) (state_in self) (calls_in lines.now) }
+        ensures transform { result.transform ≡ self.transform }
         ensures setting { setting_in result ≡ setting_in self }
-        ensures told { Tells (tell_calls (setting_in self) (state_in self) (calls_in lines.now)) transcript.old transcript.new }
+        ensures told { ClosesLast (calls_in lines.now) → Tells (tell_calls (setting_in self) (state_in self) (calls_in lines.now)) transcript.old transcript.new }
     {
         let Seat {
             stage,
@@ -219,7 +220,9 @@ impl Seat {
 
     // Tells the ages of the finished picture, a row of macroblocks to a line.
     fn tell_rows(&self, transcript: &mut Transcript)
-        ensures { Tells (tell_rows (columns_of (setting_in self.now).format) (held_by self.now.memory).finished_ages (rows_of (setting_in self.now).format)) transcript.old transcript.new }
+        ensures calls { transcript.new.calls ≡ transcript.old.calls }
+        ensures refused { transcript.new.refused ≡ transcript.old.refused }
+        ensures told { Tells (tell_rows (columns_of (setting_in self.now).format) (held_by self.now.memory).finished_ages (rows_of (setting_in self.now).format)) transcript.old transcript.new }
     {
         let format = self.stage.reel().format();
         let columns = format.columns() as usize;
@@ -232,7 +235,9 @@ impl Seat {
 
     // Tells the age table of the finished picture.
     pub fn tell_ages(&self, transcript: &mut Transcript)
-        ensures { Tells (tell_ages (setting_in self.now) (state_in self.now)) transcript.old transcript.new }
+        ensures calls { transcript.new.calls ≡ one_more transcript.old.calls }
+        ensures refused { transcript.new.refused ≡ one_more_if (is_refused (reply (setting_in self.now) (state_in self.now) (asking_age 0 0))) transcript.old.refused }
+        ensures told { Tells (tell_ages (setting_in self.now) (state_in self.now)) transcript.old transcript.new }
     {
         match self.check_finished() {
             Ok(_) => {
@@ -260,7 +265,9 @@ impl Seat {
 
     // Leaves the seat. A picture that is still open is closed, which is told and not counted.
     pub fn leave(self, transcript: &mut Transcript)
-        ensures { Tells (tell_leaving (setting_in self) (state_in self)) transcript.old transcript.new }
+        ensures calls { transcript.new.calls ≡ transcript.old.calls }
+        ensures refused { transcript.new.refused ≡ transcript.old.refused }
+        ensures told { Tells (tell_leaving (setting_in self) (state_in self)) transcript.old transcript.new }
     {
         let Seat {
             stage,

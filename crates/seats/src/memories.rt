@@ -5,8 +5,10 @@ ghost use Rattle.calls.specs.Held.{fits};
 ghost use Rattle.calls.specs.Runs.{call_of, calls_of, replies};
 ghost use Rattle.reel.specs.Memories.{held_in};
 ghost use Rattle.replay.specs.Stages.{format_of, setting_at, stage_in, state_of};
+ghost use Rattle.stores.specs.Bytes.{bytes_seen};
+ghost use Rattle.stores.specs.Tiles.{tiles_seen};
 ghost use Rattle.seats.specs.Copies.{laid_over, plane_samples, plane_size};
-ghost use Rattle.seats.specs.Seats.{Made, Ran, Tabled, blank, held_by, meaning_of, seated, sums_of};
+ghost use Rattle.seats.specs.Seats.{Made, Ran, Tabled, blank, blank_picture, held_by, meaning_of, seated, store_in, sums_of};
 
 use crate::copies::copy_plane;
 use call_lines::line::{StoreKind, TransformKind};
@@ -26,6 +28,22 @@ use transform::{Direct, TwoPass};
 pub enum StoredMemory {
     Bytes(Memory<ByteStore>),
     Tiles(Memory<TileStore>),
+}
+
+// A store of a format in bytes: zeros. (Each store has its own map from memory to picture, and so each is read as zeros by itself.)
+#[tactic(auto, using(crate::proofs::Blank::blank_bytes))]
+fn byte_zeros(heap: Global, format: Format) -> Result<ByteStore, AllocError>
+    ensures { IfOk result (λ s. bytes_seen s.size.columns s.size.rows s.memory.items ≡ blank_picture format) }
+{
+    ByteStore::filled(heap, format, 0)
+}
+
+// A store of a format in tiles: zeros.
+#[tactic(auto, using(crate::proofs::Blank::blank_tiles))]
+fn tile_zeros(heap: Global, format: Format) -> Result<TileStore, AllocError>
+    ensures { IfOk result (λ s. tiles_seen s.size.columns s.size.rows s.memory.items ≡ blank_picture format) }
+{
+    TileStore::filled(heap, format, 0)
 }
 
 // Two stores with empty tables of a format: zeros and absent marks.
@@ -116,16 +134,17 @@ impl StoredMemory {
     pub fn new(heap: Global, kind: StoreKind, format: Format) -> Result<StoredMemory, AllocError>
         ensures fits { IfOk result (λ m. fits format (held_by m) ≡ true) }
         ensures blank { IfOk result (λ m. held_by m ≡ blank format) }
+        ensures store { IfOk result (λ m. store_in m ≡ kind) }
     {
         match kind {
             StoreKind::Bytes => {
-                let finished = ByteStore::filled(heap, format, 0)?;
-                let working = ByteStore::filled(heap, format, 0)?;
+                let finished = byte_zeros(heap, format)?;
+                let working = byte_zeros(heap, format)?;
                 Ok(StoredMemory::Bytes(with_tables(heap, format, finished, working)?))
             }
             StoreKind::Tiles => {
-                let finished = TileStore::filled(heap, format, 0)?;
-                let working = TileStore::filled(heap, format, 0)?;
+                let finished = tile_zeros(heap, format)?;
+                let working = tile_zeros(heap, format)?;
                 Ok(StoredMemory::Tiles(with_tables(heap, format, finished, working)?))
             }
         }

@@ -4,11 +4,14 @@ use native.Mathlib.Nat.{mul-mul-mul_comm}
 use Rattle.std.proofs.lemmas.List.{get_or-set_same, get_or-set_other}
 use Rattle.std.proofs.Math.Nat.{add-mul}
 use Rattle.std.proofs.lemmas.Nat.{mul-add-lt}
-use Rattle.std.proofs.lemmas.Bool.{cases_eq, cases_lt, cond-true, eq-eqb, ne_eqb}
+use Rattle.std.proofs.lemmas.Bool.{cases_eq, cases_lt, cond-true, eq-eqb, lt-ltb, ne_eqb}
 use Rattle.std.proofs.lemmas.Bool.Decides.{nat_tests}
-use Rattle.pictures.specs.Pictures.{Picture, painted, painted_eight, side, span, start}
-use Rattle.pictures.proofs.Addresses.{Within, within, is_within, Apart, of_span, same_digits, paints_run}
+use Rattle.pictures.specs.Pictures.{covers, painted, painted_eight, side, span, start}
+use Rattle.pictures.proofs.Addresses.{Within, within, is_within, Apart, of_span, same_digits, paints_run, paints_where}
+use Rattle.pictures.specs.declared.layouts.Segment.{Segment}
 use Rattle.tables.specs.Cells.{in_part}
+use Rattle.stores.specs.Room.{Whole}
+use Rattle.stores.proofs.Fitting.{whole_covers}
 use Rattle.stores.specs.Bytes.{RowsAt, RunAt, byte_address, byte_at, bytes_seen}
 
 -- a row and a column of a plane of side s are within its samples
@@ -85,6 +88,34 @@ run_copied columns rows columns' rows' p x y right at count bytes others after c
     tests : (at count from to n x y : ℕ) → at + count ≤ from → at + count ≤ to
         → cond (in_part at count (min from to) n) x y % 256 ≡ cond (leb at n && ltb n (at + count)) (x % 256) (y % 256)
     tests at count from to n x y h i = grind (arith, nat_tests)
+
+-- a run of bytes is set to one value
+pub run_filled : (columns rows p x y right at count value : ℕ) (bytes after : List ℕ)
+    → RunAt columns rows p x y right at count → value < 256 → columns * rows * 384 ≤ length bytes
+    → ((k d : ℕ) → get_or after k d ≡ cond (in_part at count (length bytes) k) value (get_or bytes k d))
+    → bytes_seen columns rows after ≡ painted (span p y x (x + count)) (λ _ _ _. value) (bytes_seen columns rows bytes)
+run_filled columns rows p x y right at count value bytes after run small room cells =
+    let w = within columns rows p x y run.isin in
+    paints_run columns rows (byte_address columns rows) (bytes_apart columns rows) (byte_at bytes) (byte_at after) (λ _. value) (λ _ _ _. value) p x y count
+    (record { within_row = λ d h. within_row columns rows p x y count d w run.in_row h; one_by_one = λ d h. beside columns rows p x y d })
+    (λ a. ap (λ n. n % 256) (cells a 0) ∙ tests at count (length bytes) a value (get_or bytes a 0) small (omega (arith, run.kept))
+    ∙ ap (λ n. cond (leb n a && ltb a (n + count)) value (byte_at bytes a)) run.from)
+    (λ q u v i e. refl)
+  where
+    tests : (at count to n x y : ℕ) → x < 256 → at + count ≤ to
+        → cond (in_part at count to n) x y % 256 ≡ cond (leb at n && ltb n (at + count)) x (y % 256)
+    tests at count to n x y h i = grind (arith, nat_tests)
+
+-- all bytes of a picture are taken from a store of the same size
+pub bytes_copied : (columns rows columns' rows' : ℕ) (s : Segment) (bytes others after : List ℕ) → columns ≡ columns' → rows ≡ rows' → Whole columns rows s
+    → ((k d : ℕ) → get_or after k d ≡ cond (ltb k (columns * rows * 384)) (get_or others k d) (get_or bytes k d))
+    → bytes_seen columns rows after ≡ painted (covers s) (bytes_seen columns' rows' others).sample (bytes_seen columns rows bytes)
+bytes_copied columns rows columns' rows' s bytes others after c r whole cells =
+    paints_where columns rows (byte_address columns rows) (byte_at bytes) (byte_at after) (byte_at others) (covers s) (bytes_seen columns' rows' others).sample
+    (λ q u v w.
+    ap (λ n. n % 256) (cells (byte_address columns rows q u v) 0 ∙ cond-true _ _ _ (lt-ltb _ _ (address_below columns rows q u v w)))
+    ∙ sym (cond-true _ _ _ (whole_covers columns rows s q u v whole w)))
+    (λ q u v i e. rw (← c, ← r) (sym (cond-true _ _ _ i)))
 
 -- a row lies so far after the one that is so many above it
 below : (columns rows p x y row : ℕ) → byte_address columns rows p x (y + row) ≡ byte_address columns rows p x y + row * (columns * side p)

@@ -1,12 +1,16 @@
 -- No two places of a tiled store have one tile_address, each tile_address lies in memory, and one lane of a word is set alone.
-use Rattle.std.proofs.Common.{◌≡◌, ℕ, zero, suc, ◌+◌, ◌-◌, ◌*◌, ◌/◌, ◌%◌, ◌<◌, ◌≤◌, true, cond, ◌&&◌, eqb, ltb, leb, List, [], ◌∷◌, length, get_or, set, sym, refl, ap, ◌∙◌, ⊎_elim, mul-le-mul, arith}
+use Rattle.std.proofs.Common.{◌≡◌, ℕ, zero, suc, ◌+◌, ◌-◌, ◌*◌, ◌/◌, ◌%◌, ◌<◌, ◌≤◌, Bool, true, false, cond, ◌&&◌, ◌||◌, eqb, ltb, leb, List, [], ◌∷◌, ◌++◌, ◌^◌, length, get_or, set, sym, refl, ap, ◌∙◌, ⊎_elim, mul-le-mul, arith}
 use Rattle.std.proofs.lemmas.List.{get_or-set_same, get_or-set_other}
+use Rattle.std.proofs.Math.Nat.{mul-le-mul_right}
 use Rattle.std.proofs.lemmas.Nat.{mul-add-lt}
-use Rattle.std.proofs.lemmas.Bool.{cases_eq, cond_both, cond-true, cond-false, eq-eqb, eqb-true, ne_eqb}
+use Rattle.std.proofs.lemmas.Bool.{cases_eq, cond_both, cond-true, cond-false, cases_lt, eq-eqb, eqb-true, le-leb, le-ltb, lt-leb, ne_eqb}
 use Rattle.std.proofs.lemmas.Bool.Decides.{nat_tests}
-use Rattle.pictures.specs.Pictures.{inside, painted, side, span, start}
-use Rattle.pictures.proofs.Addresses.{Within, within, is_within, Apart, Run, of_span, same_digits, paints_run}
-use Rattle.stores.specs.Tiles.{SquareAt, WordAt, tile_address, tiles_seen, four, lane_at}
+use Rattle.pictures.specs.declared.layouts.Segment.{Segment}
+use Rattle.pictures.specs.Pictures.{Picture, covers, inside, painted, side, span, start}
+use Rattle.pictures.proofs.Addresses.{Within, within, is_within, Apart, Run, of_span, same_digits, paints_run, paints_where}
+use Rattle.tables.specs.Cells.{in_part}
+use Rattle.stores.specs.Room.{LiesIn}
+use Rattle.stores.specs.Tiles.{Row, SquareAt, WordAt, WordOf, column_word, four, joined, lane_at, row_word, tile_address, tiles_seen}
 
 -- the number of a place's macroblock, and of its sample there
 pub tile_below : (columns rows p x y : ℕ) → Within columns rows p x y → y / side p * columns + x / side p < columns * rows
@@ -65,9 +69,6 @@ tiles_apart columns rows (suc zero) x y (suc (suc (suc q))) u v w z e = absurd (
 tiles_apart columns rows (suc (suc zero)) x y (suc (suc (suc q))) u v w z e = absurd (omega (arith, z.plane))
 
 -- four bytes joined to a word are its four samples
-abbrev pub joined : List ℕ → ℕ
-joined bytes = get_or bytes 0 0 * 16777216 + get_or bytes 1 0 * 65536 + get_or bytes 2 0 * 256 + get_or bytes 3 0
-
 four_joined : (a b c d : ℕ) → a < 256 → b < 256 → c < 256 → d < 256 → four (a * 16777216 + b * 65536 + c * 256 + d) ≡ a ∷ b ∷ c ∷ d ∷ []
 four_joined a b c d h i j k =
     let e : (a * 16777216 + b * 65536 + c * 256 + d) / 16777216 % 256 ≡ a = omega arith in
@@ -165,13 +166,9 @@ word_painted columns rows p x y right w words word fresh new at l lanes is =
     is
 
 -- with one value
-pub word_filled : (columns rows p x y right w : ℕ) (words : List ℕ) (word value : ℕ) → WordAt columns rows p x y right w → w < length words
-    → value < 256 → word ≡ joined (value ∷ value ∷ value ∷ value ∷ [])
-    → tiles_seen columns rows (set words w word) ≡ painted (span p y x (x + 4)) (λ _ _ _. value) (tiles_seen columns rows words)
-word_filled columns rows p x y right w words word value at l h e =
-    word_painted columns rows p x y right w words word (λ _. value) _ at l
-    (λ a i. ap (λ n. get_or (four n) (a % 4) 0) e ∙ ap (λ bytes. get_or bytes (a % 4) 0) (four_joined value value value value h h h h) ∙ every (a % 4) (omega arith))
-    (λ q u v i e. refl)
+pub one_value : (value word a : ℕ) → value < 256 → word ≡ joined (value ∷ value ∷ value ∷ value ∷ []) → get_or (four word) (a % 4) 0 ≡ value
+one_value value word a h e =
+    ap (λ n. get_or (four n) (a % 4) 0) e ∙ ap (λ bytes. get_or bytes (a % 4) 0) (four_joined value value value value h h h h) ∙ every (a % 4) (omega arith)
   where
     every : (n : ℕ) → n < 4 → get_or (value ∷ value ∷ value ∷ value ∷ []) n 0 ≡ value
     every zero g = refl
@@ -179,6 +176,12 @@ word_filled columns rows p x y right w words word value at l h e =
     every (suc (suc zero)) g = refl
     every (suc (suc (suc zero))) g = refl
     every (suc (suc (suc (suc n)))) g = absurd (omega arith)
+
+pub word_filled : (columns rows p x y right w : ℕ) (words : List ℕ) (word value : ℕ) → WordAt columns rows p x y right w → w < length words
+    → value < 256 → word ≡ joined (value ∷ value ∷ value ∷ value ∷ [])
+    → tiles_seen columns rows (set words w word) ≡ painted (span p y x (x + 4)) (λ _ _ _. value) (tiles_seen columns rows words)
+word_filled columns rows p x y right w words word value at l h e =
+    word_painted columns rows p x y right w words word (λ _. value) _ at l (λ a i. one_value value word a h e) (λ q u v i e. refl)
 
 -- with the same word of a store of the same size
 pub word_copied : (columns rows columns' rows' p x y right w : ℕ) (words others : List ℕ) (word : ℕ) → columns ≡ columns' → rows ≡ rows'
@@ -189,6 +192,124 @@ word_copied columns rows columns' rows' p x y right w words others word c r at l
     (λ a i. ap (λ n. get_or (four n) (a % 4) 0) (e ∙ ap (λ n. get_or others n 0) (sym i)))
     (λ q u v i e. rw (← c, ← r) (sym (cond-true _ _ _ i)))
 
+-- an address is told by the word of the row, by how far after it the word lies, and by the lane
+pub address_words : (columns p x y : ℕ) → p < 3 → tile_address columns p x y ≡ 4 * (row_word columns p y + column_word p (x / 4)) + x % 4
+unfolding tile_address
+address_words columns zero x y l = omega arith
+address_words columns (suc zero) x y l = omega arith
+address_words columns (suc (suc zero)) x y l = omega arith
+address_words columns (suc (suc (suc p))) x y l = absurd (omega arith)
+
+pub row_few : (columns rows p x y : ℕ) → rows ≤ 18 → Within columns rows p x y → y < 288
+row_few columns rows zero x y h w = omega (arith, w.down)
+row_few columns rows (suc zero) x y h w = omega (arith, w.down)
+row_few columns rows (suc (suc zero)) x y h w = omega (arith, w.down)
+row_few columns rows (suc (suc (suc p))) x y h w = absurd (omega (arith, w.plane))
+
+pub word_few : (columns rows p x y : ℕ) → columns ≤ 22 → Within columns rows p x y → x / 4 < 88
+word_few columns rows zero x y h w = omega (arith, w.across)
+word_few columns rows (suc zero) x y h w = omega (arith, w.across)
+word_few columns rows (suc (suc zero)) x y h w = omega (arith, w.across)
+word_few columns rows (suc (suc (suc p))) x y h w = absurd (omega (arith, w.plane))
+
+-- the four samples of a word
+pub word_row : (columns rows p x y w : ℕ) (words : List ℕ) → inside columns rows p x y ≡ true → WordOf columns rows p x y w
+    → Row (tiles_seen columns rows words) p (x / 4 * 4) y 4 (four (get_or words w 0))
+word_row columns rows p x y w words isin at c h =
+    let here = within columns rows p x y isin in
+    let left : x / 4 * 4 < columns * side p = omega (arith, here.across) in
+    let there : inside columns rows p (x / 4 * 4 + c) y ≡ true =
+    is_within columns rows p (x / 4 * 4 + c) y (record { plane = here.plane; across = word_across columns p (x / 4 * 4) c here.plane (omega arith) h left; down = here.down }) in
+    let n : (x / 4 * 4 + c) / 4 ≡ x / 4 = omega arith in
+    let a : tile_address columns p (x / 4 * 4 + c) y ≡ 4 * w + c =
+    address_words columns p (x / 4 * 4 + c) y here.plane ∙ (rw n (omega (arith, at.holds, address_words columns p x y here.plane))) in
+    let d : (4 * w + c) / 4 ≡ w = omega arith in
+    let m : (4 * w + c) % 4 ≡ c = omega arith in
+    sym (cond-true _ _ _ there ∙ ap (lane_at words) a ∙ ap (λ z. get_or (four (get_or words z 0)) ((4 * w + c) % 4) 0) d ∙ ap (λ z. get_or (four (get_or words w 0)) z 0) m)
+
+-- two words side by side, moved on by so many lanes
+moved_on : (first second skip j : ℕ) → first < 4294967296 → second < 4294967296 → skip < 4 → j < 4
+    → get_or (four ((first * 4294967296 + second) / 2 ^ (32 - 8 * skip) % 4294967296)) j 0 ≡ get_or (four first ++ four second) (skip + j) 0
+moved_on first second zero zero h i k l = omega arith
+moved_on first second zero (suc zero) h i k l = omega arith
+moved_on first second zero (suc (suc zero)) h i k l = omega arith
+moved_on first second zero (suc (suc (suc zero))) h i k l = omega arith
+moved_on first second (suc zero) zero h i k l = omega arith
+moved_on first second (suc zero) (suc zero) h i k l = omega arith
+moved_on first second (suc zero) (suc (suc zero)) h i k l = omega arith
+moved_on first second (suc zero) (suc (suc (suc zero))) h i k l = omega arith
+moved_on first second (suc (suc zero)) zero h i k l = omega arith
+moved_on first second (suc (suc zero)) (suc zero) h i k l = omega arith
+moved_on first second (suc (suc zero)) (suc (suc zero)) h i k l = omega arith
+moved_on first second (suc (suc zero)) (suc (suc (suc zero))) h i k l = omega arith
+moved_on first second (suc (suc (suc zero))) zero h i k l = omega arith
+moved_on first second (suc (suc (suc zero))) (suc zero) h i k l = omega arith
+moved_on first second (suc (suc (suc zero))) (suc (suc zero)) h i k l = omega arith
+moved_on first second (suc (suc (suc zero))) (suc (suc (suc zero))) h i k l = omega arith
+moved_on first second (suc (suc (suc (suc s)))) j h i k l = absurd (omega arith)
+moved_on first second skip (suc (suc (suc (suc j)))) h i k l = absurd (omega arith)
+
+pub lanes_moved : (first second a b skip j : ℕ) → a ≡ first → b ≡ second → first < 4294967296 → second < 4294967296 → skip < 4 → j < 4
+    → get_or (four ((a * 4294967296 + b) / 2 ^ (32 - 8 * skip) % 4294967296)) j 0 ≡ get_or (four first ++ four second) (skip + j) 0
+lanes_moved first second a b skip j e f h i k l =
+    ap (λ n. get_or (four ((n * 4294967296 + b) / 2 ^ (32 - 8 * skip) % 4294967296)) j 0) e
+    ∙ ap (λ n. get_or (four ((first * 4294967296 + n) / 2 ^ (32 - 8 * skip) % 4294967296)) j 0) f ∙ moved_on first second skip j h i k l
+
+-- a lane of two words is one of the first, or of the second
+lane_left : (first second i : ℕ) → i < 4 → get_or (four first ++ four second) i 0 ≡ get_or (four first) i 0
+lane_left first second zero h = refl
+lane_left first second (suc zero) h = refl
+lane_left first second (suc (suc zero)) h = refl
+lane_left first second (suc (suc (suc zero))) h = refl
+lane_left first second (suc (suc (suc (suc i)))) h = absurd (omega arith)
+
+lane_right : (first second i : ℕ) → i < 4 → get_or (four first ++ four second) (4 + i) 0 ≡ get_or (four second) i 0
+lane_right first second zero h = refl
+lane_right first second (suc zero) h = refl
+lane_right first second (suc (suc zero)) h = refl
+lane_right first second (suc (suc (suc zero))) h = refl
+lane_right first second (suc (suc (suc (suc i)))) h = absurd (omega arith)
+
+-- the samples of two words that lie side by side, from one of the first's on
+moved : (f : Picture) (p x y skip j first second word : ℕ) → skip < 4 → j < 4 → Row f p x y 4 (four first) → ((4 ≤ skip + j) → Row f p (x + 4) y 4 (four second))
+    → get_or (four word) j 0 ≡ get_or (four first ++ four second) (skip + j) 0 → get_or (four word) j 0 ≡ f.sample p (x + skip + j) y
+moved f p x y skip j first second word h i a b e =
+    ⊎_elim
+    (λ (l : skip + j < 4).
+    let n : x + (skip + j) ≡ x + skip + j = omega arith in
+    e ∙ lane_left first second (skip + j) l ∙ a (skip + j) l ∙ ap (λ z. f.sample p z y) n)
+    (λ (l : 4 ≤ skip + j).
+    let d : ℕ = skip + j - 4 in
+    let m : skip + j ≡ 4 + d = omega arith in
+    let n : x + 4 + d ≡ x + skip + j = omega arith in
+    e ∙ ap (λ z. get_or (four first ++ four second) z 0) m ∙ lane_right first second d (omega arith) ∙ b l d (omega arith) ∙ ap (λ z. f.sample p z y) n)
+    (cases_lt (skip + j) 4)
+
+-- so eight samples from any place on are those of two words, or of three
+pub eight_moved : (f : Picture) (p x y first second third left right : ℕ) → Row f p (x / 4 * 4) y 4 (four first) → Row f p ((x + 4) / 4 * 4) y 4 (four second)
+    → Row f p ((x + 7) / 4 * 4) y 4 (four third)
+    → ((j : ℕ) → j < 4 → get_or (four left) j 0 ≡ get_or (four first ++ four second) (x % 4 + j) 0)
+    → ((j : ℕ) → j < 4 → get_or (four right) j 0 ≡ get_or (four second ++ four third) (x % 4 + j) 0)
+    → (i : ℕ) → i < 8 → get_or (four left ++ four right) i 0 ≡ f.sample p (x + i) y
+eight_moved f p x y first second third left right a b c l r i h =
+    ⊎_elim
+    (λ (k : i < 4).
+    let n : x / 4 * 4 + x % 4 + i ≡ x + i = omega arith in
+    let e : (x + 4) / 4 * 4 ≡ x / 4 * 4 + 4 = omega arith in
+    lane_left left right i k
+    ∙ moved f p (x / 4 * 4) y (x % 4) i first second left (omega arith) k a (λ _. rw e at b) (l i k)
+    ∙ ap (λ z. f.sample p z y) n)
+    (λ (k : 4 ≤ i).
+    let d : ℕ = i - 4 in
+    let g : d < 4 = omega arith in
+    let m : i ≡ 4 + d = omega arith in
+    let n : (x + 4) / 4 * 4 + x % 4 + d ≡ x + i = omega arith in
+    ap (λ z. get_or (four left ++ four right) z 0) m ∙ lane_right left right d g
+    ∙ moved f p ((x + 4) / 4 * 4) y (x % 4) d second third right (omega arith) g b
+    (λ o. let e : (x + 7) / 4 * 4 ≡ (x + 4) / 4 * 4 + 4 = omega arith in rw e at c) (r d g)
+    ∙ ap (λ z. f.sample p z y) n)
+    (cases_lt i 4)
+
 -- a square's words lie inside
 pub word_isin : (columns rows p x y n : ℕ) → SquareAt columns rows p x y → n < 16 → inside columns rows p (x + n % 2 * 4) (y + n / 2) ≡ true
 word_isin columns rows p x y n at h =
@@ -196,32 +317,145 @@ word_isin columns rows p x y n at h =
     let w = within columns rows p (x + 7) (y + 7) at.last in
     is_within columns rows p (x + n % 2 * 4) (y + n / 2) (record { plane = a.plane; across = omega (arith, w.across); down = omega (arith, w.down) })
 
--- and one of them is set with four values of the square
-pub word_of_square : (columns rows p x y n w : ℕ) (words values : List ℕ) (word : ℕ) → n < 16 → ((k : ℕ) → get_or values k 0 < 256)
-    → WordAt columns rows p (x + n % 2 * 4) (y + n / 2) (x + n % 2 * 4 + 4) w → w < length words
-    → word ≡ joined (get_or values (4 * n) 0 ∷ get_or values (4 * n + 1) 0 ∷ get_or values (4 * n + 2) 0 ∷ get_or values (4 * n + 3) 0 ∷ [])
-    → tiles_seen columns rows (set words w word)
-    ≡ painted (span p (y + n / 2) (x + n % 2 * 4) (x + n % 2 * 4 + 4)) (λ _ u v. get_or values (8 * (v - y) + (u - x)) 0) (tiles_seen columns rows words)
-word_of_square columns rows p x y n w words values word h small at l e =
-    word_painted columns rows p (x + n % 2 * 4) (y + n / 2) (x + n % 2 * 4 + 4) w words word (λ a. get_or values (4 * n + a % 4) 0) (λ _ u v. get_or values (8 * (v - y) + (u - x)) 0) at l
+-- a word is set with four values, from one of them on
+pub word_with : (columns rows p x y b w : ℕ) (words values : List ℕ) (word : ℕ) (new : ℕ → ℕ → ℕ → ℕ) → ((k : ℕ) → get_or values k 0 < 256)
+    → inside columns rows p x y ≡ true → x % 4 ≡ 0 → WordOf columns rows p x y w → w < length words
+    → word ≡ joined (get_or values b 0 ∷ get_or values (b + 1) 0 ∷ get_or values (b + 2) 0 ∷ get_or values (b + 3) 0 ∷ [])
+    → ((d : ℕ) → d < 4 → get_or values (b + d) 0 ≡ new p (x + d) y)
+    → tiles_seen columns rows (set words w word) ≡ painted (span p y x (x + 4)) new (tiles_seen columns rows words)
+word_with columns rows p x y b w words values word new small isin begins at l e is =
+    word_painted columns rows p x y (x + 4) w words word (λ a. get_or values (b + a % 4) 0) new
+    (record { isin = isin; begins = begins; ends = omega arith; holds = at.holds; kept = at.kept }) l
     (λ a i. ap (λ m. get_or (four m) (a % 4) 0) e ∙ ap (λ bytes. get_or bytes (a % 4) 0) (four_joined _ _ _ _ (small _) (small _) (small _) (small _)) ∙ lane (a % 4) (omega arith))
     (λ q u v i s.
-    let t = of_span p (y + n / 2) (x + n % 2 * 4) (x + n % 2 * 4 + 4) q u v s in
-    let here = within columns rows p (x + n % 2 * 4) (y + n / 2) at.isin in
-    let d : ℕ = u - (x + n % 2 * 4) in
-    let lt : d < 4 = omega (arith, t.2) in
-    let back : x + n % 2 * 4 + d ≡ u = omega (arith, t.2) in
-    let there : tile_address columns q u v ≡ tile_address columns p (x + n % 2 * 4) (y + n / 2) + d =
-    ap (λ m. tile_address columns m u v) (sym t.0) ∙ ap (λ m. tile_address columns p u m) (sym t.1) ∙ ap (λ m. tile_address columns p m (y + n / 2)) (sym back)
-    ∙ word_beside columns p (x + n % 2 * 4) (y + n / 2) d here.plane at.begins lt in
-    let begins = begins_word columns p (x + n % 2 * 4) (y + n / 2) here.plane at.begins in
-    let same : 4 * n + tile_address columns q u v % 4 ≡ 8 * (v - y) + (u - x) = omega (arith, t.1) in
-    ap (λ m. get_or values m 0) same)
+    let t = of_span p y x (x + 4) q u v s in
+    let here = within columns rows p x y isin in
+    let d : ℕ = u - x in
+    let lt : d < 4 = omega (arith, t.2, t.3) in
+    let back : x + d ≡ u = omega (arith, t.2) in
+    let there : tile_address columns q u v ≡ tile_address columns p x y + d =
+    ap (λ m. tile_address columns m u v) (sym t.0) ∙ ap (λ m. tile_address columns p u m) (sym t.1) ∙ ap (λ m. tile_address columns p m y) (sym back)
+    ∙ word_beside columns p x y d here.plane begins lt in
+    let zero_lane = begins_word columns p x y here.plane begins in
+    let same : b + tile_address columns q u v % 4 ≡ b + d = omega arith in
+    ap (λ m. get_or values m 0) same ∙ is d lt ∙ ap (λ m. new m (x + d) y) t.0 ∙ ap (λ m. new q m y) back ∙ ap (λ m. new q u m) t.1)
   where
     lane : (i : ℕ) → i < 4
-        → get_or (get_or values (4 * n) 0 ∷ get_or values (4 * n + 1) 0 ∷ get_or values (4 * n + 2) 0 ∷ get_or values (4 * n + 3) 0 ∷ []) i 0 ≡ get_or values (4 * n + i) 0
-    lane zero g = let z : 4 * n + 0 ≡ 4 * n = omega arith in rw z refl
+        → get_or (get_or values b 0 ∷ get_or values (b + 1) 0 ∷ get_or values (b + 2) 0 ∷ get_or values (b + 3) 0 ∷ []) i 0 ≡ get_or values (b + i) 0
+    lane zero g = let z : b + 0 ≡ b = omega arith in rw z refl
     lane (suc zero) g = refl
     lane (suc (suc zero)) g = refl
     lane (suc (suc (suc zero))) g = refl
     lane (suc (suc (suc (suc i)))) g = absurd (omega arith)
+
+-- a segment's rows of macroblocks before one, and that one
+abbrev pub rows_to : Segment → ℕ → Segment
+rows_to s row = record { left = s.left; right = s.right; top = s.top; bottom = row }
+
+abbrev pub one_row : Segment → ℕ → Segment
+one_row s row = record { left = s.left; right = s.right; top = row; bottom = row + 1 }
+
+pub no_row : (s : Segment) (q u v : ℕ) → covers (rows_to s s.top) q u v ≡ false
+unfolding covers
+no_row s q u v = grind (arith, nat_tests)
+
+pub row_more : (s : Segment) (row q u v : ℕ) → s.top ≤ row → covers (rows_to s (row + 1)) q u v ≡ (covers (one_row s row) q u v || covers (rows_to s row) q u v)
+unfolding covers
+row_more s row q u v h =
+    joins (leb (s.left * side q) u) (ltb u (s.right * side q)) (s.top * side q) (row * side q) ((row + 1) * side q) v (mul-le-mul_right (side q) h) (mul-le-mul_right (side q) (let l : row ≤ row + 1 = omega arith in l))
+  where
+    joins : (a b : Bool) (t m n v : ℕ) → t ≤ m → m ≤ n → (a && (b && (leb t v && ltb v n))) ≡ ((a && (b && (leb m v && ltb v n))) || (a && (b && (leb t v && ltb v m))))
+    joins false b t m n v h i = refl
+    joins true false t m n v h i = refl
+    joins true true t m n v h i = grind (arith, nat_tests)
+
+-- a macroblock's number, by its row and its column, is one of a row's from left on, before right
+number_in_row : (columns left right row down across : ℕ) → across < columns → left ≤ right → right ≤ columns
+    → (leb (row * columns + left) (down * columns + across) && ltb (down * columns + across) (row * columns + right))
+    ≡ (leb left across && (ltb across right && (leb row down && ltb down (row + 1))))
+number_in_row columns left right row down across h i j =
+    ⊎_elim
+    (λ (l : down < row).
+    let p : (down + 1) * columns ≤ row * columns = mul-le-mul_right columns (let k : down + 1 ≤ row = omega arith in k) in
+    let a : leb (row * columns + left) (down * columns + across) ≡ false = lt-leb _ _ (omega (arith, p)) in
+    let b : leb row down ≡ false = lt-leb _ _ l in
+    simp (a, b) (sym (out (leb left across) (ltb across right))))
+    (λ (l : row ≤ down).
+    ⊎_elim
+    (λ (m : down < row + 1).
+    let e : down ≡ row = omega arith in
+    rw e (grind (arith, nat_tests)))
+    (λ (m : row + 1 ≤ down).
+    let p : (row + 1) * columns ≤ down * columns = mul-le-mul_right columns m in
+    let a : ltb (down * columns + across) (row * columns + right) ≡ false = le-ltb _ _ (omega (arith, p)) in
+    let b : ltb down (row + 1) ≡ false = le-ltb _ _ m in
+    let c : leb row down ≡ true = le-leb _ _ l in
+    simp (a, b, c) (and_out (leb (row * columns + left) (down * columns + across)) ∙ sym (out (leb left across) (ltb across right))))
+    (cases_lt down (row + 1)))
+    (cases_lt down row)
+  where
+    out : (a b : Bool) → (a && (b && false)) ≡ false
+    out false b = refl
+    out true false = refl
+    out true true = refl
+
+    and_out : (a : Bool) → (a && false) ≡ false
+    and_out false = refl
+    and_out true = refl
+
+words_of : (m n t c r : ℕ) → r < 384 → m * 96 + c ≡ n * 96
+    → (leb (m * 96) ((t * 384 + r) / 4) && ltb ((t * 384 + r) / 4) (m * 96 + c)) ≡ (leb m t && ltb t n)
+words_of m n t c r h e = grind (arith, nat_tests)
+
+by_sixteen : (left right row u v : ℕ) → (leb left (u / 16) && (ltb (u / 16) right && (leb row (v / 16) && ltb (v / 16) (row + 1))))
+    ≡ (leb (left * 16) u && (ltb u (right * 16) && (leb (row * 16) v && ltb v ((row + 1) * 16))))
+by_sixteen left right row u v = grind (arith, nat_tests)
+
+by_eight : (left right row u v : ℕ) → (leb left (u / 8) && (ltb (u / 8) right && (leb row (v / 8) && ltb (v / 8) (row + 1))))
+    ≡ (leb (left * 8) u && (ltb u (right * 8) && (leb (row * 8) v && ltb v ((row + 1) * 8))))
+by_eight left right row u v = grind (arith, nat_tests)
+
+-- so the words of a row of macroblocks are those of its places
+row_words : (columns rows row q u v : ℕ) (s : Segment) → Within columns rows q u v → s.left ≤ s.right → s.right ≤ columns
+    → (leb ((row * columns + s.left) * 96) (tile_address columns q u v / 4) && ltb (tile_address columns q u v / 4) ((row * columns + s.left) * 96 + (s.right - s.left) * 96))
+    ≡ covers (one_row s row) q u v
+unfolding tile_address covers
+row_words columns rows row zero u v s w h i =
+    words_of (row * columns + s.left) (row * columns + s.right) (v / 16 * columns + u / 16) ((s.right - s.left) * 96) _ (sample_below zero u v w.plane) (omega arith)
+    ∙ number_in_row columns s.left s.right row (v / 16) (u / 16) (omega (arith, w.across)) h i ∙ by_sixteen s.left s.right row u v
+row_words columns rows row (suc zero) u v s w h i =
+    words_of (row * columns + s.left) (row * columns + s.right) (v / 8 * columns + u / 8) ((s.right - s.left) * 96) _ (sample_below (suc zero) u v w.plane) (omega arith)
+    ∙ number_in_row columns s.left s.right row (v / 8) (u / 8) (omega (arith, w.across)) h i ∙ by_eight s.left s.right row u v
+row_words columns rows row (suc (suc zero)) u v s w h i =
+    words_of (row * columns + s.left) (row * columns + s.right) (v / 8 * columns + u / 8) ((s.right - s.left) * 96) _ (sample_below (suc (suc zero)) u v w.plane) (omega arith)
+    ∙ number_in_row columns s.left s.right row (v / 8) (u / 8) (omega (arith, w.across)) h i ∙ by_eight s.left s.right row u v
+row_words columns rows row (suc (suc (suc q))) u v s w h i = absurd (omega (arith, w.plane))
+
+-- the lanes of words some of which are set
+pub part_lanes : (first count size x a : ℕ) (words after : List ℕ) → a / 4 < size
+    → get_or after (a / 4) 0 ≡ cond (in_part first count size (a / 4)) x (get_or words (a / 4) 0)
+    → lane_at after a ≡ cond (leb first (a / 4) && ltb (a / 4) (first + count)) (get_or (four x) (a % 4) 0) (lane_at words a)
+part_lanes first count size x a words after l e =
+    ap (λ n. get_or (four n) (a % 4) 0) e ∙ each (in_part first count size (a / 4)) (get_or words (a / 4) 0)
+    ∙ ap (λ b. cond b (get_or (four x) (a % 4) 0) (lane_at words a)) (there first count size (a / 4) l)
+  where
+    each : (b : Bool) (y : ℕ) → get_or (four (cond b x y)) (a % 4) 0 ≡ cond b (get_or (four x) (a % 4) 0) (get_or (four y) (a % 4) 0)
+    each true y = refl
+    each false y = refl
+
+    there : (first count size k : ℕ) → k < size → in_part first count size k ≡ (leb first k && ltb k (first + count))
+    there first count size k h = grind (arith, nat_tests)
+
+-- a row of macroblocks is painted by its words
+pub row_painted : (columns rows row : ℕ) (s : Segment) (words after : List ℕ) (fresh : ℕ → ℕ) (new : ℕ → ℕ → ℕ → ℕ)
+    → LiesIn columns rows s → row < rows → columns * rows * 96 ≤ length words
+    → ((a : ℕ) → a / 4 < columns * rows * 96 → lane_at after a ≡ cond (leb ((row * columns + s.left) * 96) (a / 4) && ltb (a / 4) ((row * columns + s.left) * 96 + (s.right - s.left) * 96)) (fresh a) (lane_at words a))
+    → ((q u v : ℕ) → inside columns rows q u v ≡ true → fresh (tile_address columns q u v) ≡ new q u v)
+    → tiles_seen columns rows after ≡ painted (covers (one_row s row)) new (tiles_seen columns rows words)
+row_painted columns rows row s words after fresh new at l room step is =
+    paints_where columns rows (tile_address columns) (lane_at words) (lane_at after) fresh (covers (one_row s row)) new
+    (λ q u v w.
+    let k : tile_address columns q u v / 4 < columns * rows * 96 = omega (arith, address_below columns rows q u v w) in
+    step (tile_address columns q u v) k
+    ∙ ap (λ b. cond b (fresh (tile_address columns q u v)) (lane_at words (tile_address columns q u v))) (row_words columns rows row q u v s w at.rightwards at.across))
+    (λ q u v i e. is q u v i)

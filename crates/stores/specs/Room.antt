@@ -1,6 +1,7 @@
 -- The size of a store over memory that has room for so many macroblocks, and what it keeps where.
-use Rattle.std.specs.Prelude.{◌≡◌, ℕ, ◌*◌, ◌/◌, ◌<◌, Bool, true, false, cond, Some, None, Option, MatchOption, List, length, nat_le}
+use Rattle.std.specs.Prelude.{◌≡◌, ℕ, ◌*◌, ◌/◌, ◌<◌, ◌≤◌, Bool, true, false, cond, Some, None, Option, MatchOption, List, length, nat_le}
 use Rattle.pictures.specs.declared.formats.Format.{Format}
+use Rattle.pictures.specs.declared.layouts.Segment.{Segment}
 use Rattle.pictures.specs.Formats.{columns_of, numbered, rows_of}
 use Rattle.pictures.specs.Pictures.{Picture, inside}
 
@@ -32,3 +33,17 @@ pub record PlacedAt (columns rows : ℕ) (address : ℕ → ℕ → ℕ → ℕ)
 -- and one outside has none
 abbrev pub Placed : ℕ → ℕ → (ℕ → ℕ → ℕ → ℕ) → ℕ → ℕ → ℕ → Option ℕ → Type 0
 Placed columns rows address p x y place = MatchOption place (inside columns rows p x y ≡ false) (λ at. PlacedAt columns rows address p x y at)
+
+-- a segment is the whole picture
+pub record Whole (columns rows : ℕ) (s : Segment) : Type 0 where
+  pub left : s.left ≡ 0
+  pub right : s.right ≡ columns
+  pub top : s.top ≡ 0
+  pub bottom : s.bottom ≡ rows
+
+-- a segment lies inside the picture
+pub record LiesIn (columns rows : ℕ) (s : Segment) : Type 0 where
+  pub rightwards : s.left ≤ s.right
+  pub across : s.right ≤ columns
+  pub downwards : s.top ≤ s.bottom
+  pub down : s.bottom ≤ rows

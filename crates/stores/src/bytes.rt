@@ -1,27 +1,46 @@
-ghost use Rattle.std.specs.Prelude.{◌≡◌, ℕ, ◌+◌, ◌-◌, ◌*◌, ◌/◌, ◌%◌, ◌<◌, ◌≤◌, ◌&&◌, IfSome, if◌then◌else◌, length, nat_le, nat_lt, slice_index};
-ghost use Rattle.pictures.specs.Pictures.{painted_square};
+ghost use Rattle.std.specs.Prelude.{◌≡◌, ℕ, ◌+◌, ◌-◌, ◌*◌, ◌/◌, ◌%◌, ◌<◌, ◌≤◌, ◌&&◌, IfSome, true, if◌then◌else◌, length, nat_le, nat_lt, slice_index};
+ghost use Rattle.pictures.specs.Pictures.{inside, painted_square};
 ghost use Rattle.stores.specs.Bytes.{RowsAt, RunAt, byte_address, bytes_seen};
-ghost use Rattle.stores.specs.Room.{Placed};
+ghost use Rattle.stores.specs.Room.{Placed, PlacedAt, Whole};
 ghost use Rattle.std.proofs.Common.{rules};
 
 use crate::cells::CellStore;
-use pictures::{Size, Store, side_of, start_of};
-use tables::copy_part;
+use pictures::{Segment, Size, Store, side_of, start_of};
+use tables::{copy_part, fill_part};
 
 // A store that keeps a byte for each sample: plane 0 by rows, then planes 1 and 2. (The two stores differ in their order of memory, and so each has its own
 // `impl Store`: one over a trait of orders would have as many methods to write, and these two that tell the sizes besides.)
 pub type ByteStore = CellStore<u8, 384>;
 
+// Where a place inside is kept.
+fn address(size: Size, plane: u8, across: usize, down: usize) -> usize
+    requires { inside size.columns size.rows plane across down ≡ true }
+    ensures { PlacedAt size.columns size.rows (byte_address size.columns size.rows) plane across down result }
+{
+    let columns = size.columns as usize;
+    let macroblocks = columns * size.rows as usize;
+    start_of(plane) * macroblocks + (down * (columns * side_of(plane)) + across)
+}
+
 // Where a place is kept.
 fn place(size: Size, plane: u8, across: usize, down: usize) -> Option<usize>
     ensures { Placed size.columns size.rows (byte_address size.columns size.rows) plane across down result }
 {
-    if !size.is_inside(plane, across, down) {
-        return None;
+    if size.is_inside(plane, across, down) {
+        Some(address(size, plane, across, down))
+    } else {
+        None
     }
-    let columns = size.columns as usize;
-    let macroblocks = columns * size.rows as usize;
-    Some(start_of(plane) * macroblocks + (down * (columns * side_of(plane)) + across))
+}
+
+// Whether a segment is the whole picture of a size.
+fn is_whole(size: Size, segment: Segment) -> bool
+    ensures { result ≡ true → Whole size.columns size.rows segment }
+{
+    segment.left == 0
+        && segment.right == size.columns
+        && segment.top == 0
+        && segment.bottom == size.rows
 }
 
 // Where a row's samples are kept from a place inside on, and how many of them lie before right.
@@ -39,11 +58,10 @@ fn eight_at(size: Size, plane: u8, across: usize, down: usize) -> Option<usize>
     requires { across ≤ 65535 }
     ensures { IfSome result (λ at. RunAt size.columns size.rows plane across down (across + 8) at 8) }
 {
-    let (at, count) = run_at(size, plane, across, down, across + 8)?;
-    if count < 8 {
+    if !size.is_inside(plane, across + 7, down) {
         return None;
     }
-    Some(at)
+    Some(address(size, plane, across, down))
 }
 
 // The eight bytes from a place of a memory on.
@@ -71,15 +89,15 @@ fn rows_at(size: Size, plane: u8, across: usize, down: usize) -> Option<(usize, 
     requires rows { down ≤ 65535 }
     ensures { IfSome result (λ rows. RowsAt size.columns size.rows plane across down rows.0 rows.1) }
 {
-    let at = place(size, plane, across, down)?;
     if !size.is_inside(plane, across + 7, down + 7) {
         return None;
     }
+    let at = address(size, plane, across, down);
     Some((at, size.columns as usize * side_of(plane)))
 }
 
 // Copies eight bytes from a place on into a row of a square, and no others.
-fn copy_out(bytes: &[u8], at: usize, values: &mut [u8; 64], row: usize)
+pub(crate) fn copy_out(bytes: &[u8], at: usize, values: &mut [u8; 64], row: usize)
     requires inside { at + 8 ≤ length bytes.now }
     requires row { row < 8 }
     ensures { (k : ℕ) → slice_index values.new k ≡ (if nat_le (8 * row) k && nat_lt k (8 * row + 8) then slice_index bytes.now (at + (k - 8 * row)) else slice_index values.old k) }
@@ -188,6 +206,23 @@ impl Store for ByteStore {
         set_square(&mut self.memory, self.size, plane, across, down, values)
     }
 
+    // The rest of the row at once.
+    fn fill_run(
+        &mut self,
+        plane: u8,
+        across: usize,
+        down: usize,
+        right: usize,
+        value: u8,
+    ) -> usize {
+        if let Some((at, count)) = run_at(self.size, plane, across, down, right) {
+            fill_part(&mut self.memory, at, count, value);
+            return across + count;
+        }
+        self.write(plane, across, down, value);
+        across + 1
+    }
+
     // The rest of the row at once where the other store has the same size.
     fn copy_run(
         &mut self,
@@ -208,5 +243,13 @@ impl Store for ByteStore {
         let value = other.sample(plane, across, down);
         self.write(plane, across, down, value);
         across + 1
+    }
+    // The whole picture at once where the other store has the same size.
+    fn copy_together(&mut self, other: &Self, segment: Segment) -> bool {
+        if self.size != other.size || !is_whole(self.size, segment) {
+            return false;
+        }
+        self.copy_cells(other);
+        true
     }
 }

@@ -1,4 +1,4 @@
-ghost use Rattle.std.specs.Prelude.{◌≡◌, ℕ, ◌*◌, ◌/◌, ◌≤◌, IfOk, List, length, replicate, vec_len};
+ghost use Rattle.std.specs.Prelude.{◌≡◌, ℕ, ◌*◌, ◌/◌, ◌≤◌, IfOk, List, if◌then◌else◌, length, nat_lt, replicate, slice_index_or, vec_len};
 ghost use Rattle.pictures.specs.Formats.{columns_of, numbered, rows_of};
 ghost use Rattle.pictures.specs.Pictures.{Picture};
 ghost use Rattle.stores.specs.Room.{holds, made, size_in};
@@ -6,6 +6,7 @@ ghost use Rattle.stores.specs.Room.{holds, made, size_in};
 use crate::room::format_in;
 use pictures::{Format, Size};
 use std::alloc::{AllocError, Global};
+use tables::copy_part;
 
 // A store that keeps a picture's samples in cells, so many of them to a macroblock; how, is told by the kind of cell.
 #[derive(Drop)]
@@ -54,6 +55,18 @@ impl<C: Copy, const PER_MACROBLOCK: u16> CellStore<C, PER_MACROBLOCK> {
             size: Size::from(format),
             memory,
         })
+    }
+
+    // Copies the cells of the picture from a store of the same size, and none beyond.
+    pub(crate) fn copy_cells(&mut self, other: &Self)
+        requires columns { self.old.size.columns ≡ other.now.size.columns }
+        requires rows { self.old.size.rows ≡ other.now.size.rows }
+        ensures size { self.new.size ≡ self.old.size }
+        ensures cells { (k : ℕ) (d : C) → slice_index_or self.new.memory.items k d ≡ (if nat_lt k (self.old.size.columns * self.old.size.rows * PER_MACROBLOCK) then slice_index_or other.now.memory.items k d else slice_index_or self.old.memory.items k d) }
+    {
+        let macroblocks = self.size.columns as usize * self.size.rows as usize;
+        let cells = macroblocks * PER_MACROBLOCK as usize;
+        copy_part(&other.memory, &mut self.memory, 0, cells);
     }
 
     // Gives the memory back.

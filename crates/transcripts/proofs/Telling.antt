@@ -1,8 +1,7 @@
 -- What is told, step after step.
-use Rattle.std.proofs.Common.{◌≡◌, ℕ, Bool, true, false, List, [], ◌∷◌, ◌++◌, IsSome, IfSome, Some, None, Option, string_bytes, String, sym, refl, ap, ◌∙◌, true≢false}
+use Rattle.std.proofs.Common.{◌≡◌, ℕ, Bool, List, [], ◌∷◌, ◌++◌, IsSome, IfSome, Some, None, Option, string_bytes, String, sym, refl, ap, ◌∙◌, true≢false}
 use Rattle.std.specs.Option.{option_map, is_some}
 use Rattle.transcripts.specs.declared.transcript.Transcript.{Transcript}
-use Rattle.transcripts.specs.Answers.{line_after}
 use Rattle.transcripts.specs.Tallies.{one_more, one_more_if}
 use Rattle.transcripts.specs.Told.{Tells, Told, counted, told_by, with_line}
 

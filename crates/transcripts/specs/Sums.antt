@@ -1,5 +1,5 @@
 -- Sums of 32 bits.
-use Rattle.std.specs.Prelude.{ℕ, zero, suc, ◌-◌, ◌*◌, ◌%◌, ◌^◌, Bool, false, List, ◌++◌, length, replicate, bit_xor, fold, codes}
+use Rattle.std.specs.Prelude.{ℕ, zero, suc, ◌-◌, ◌*◌, ◌%◌, ◌^◌, false, List, ◌++◌, length, replicate, bit_xor, fold, codes}
 use Rattle.std.specs.Fmt.{digits}
 use Rattle.pictures.specs.Pictures.{Picture, side}
 use Rattle.transcripts.specs.declared.sums.PictureSums.{PictureSums}

@@ -3,7 +3,7 @@ ghost use Rattle.std.specs.Prelude.{◌≡◌, ℕ, List, [], ◌∷◌, ◌++�
 ghost use Rattle.std.specs.Option.{option_map};
 ghost use Rattle.std.specs.Result.{result_ok};
 ghost use Rattle.std.specs.Fmt.{option_append};
-ghost use Rattle.transcripts.specs.Answers.{Grown, done_text};
+ghost use Rattle.transcripts.specs.Answers.{Grown, answer_text, done_text, word_text};
 ghost use Rattle.transcripts.specs.Tallies.{is_refused, one_more, one_more_if};
 ghost use Rattle.transcripts.specs.Told.{Tells, accepted, answered, told_by, with_line};
 
@@ -50,7 +50,9 @@ impl Transcript {
 
     // From here on there is no text, since memory did not suffice for a part of it.
     pub fn fall_short(&mut self)
-        ensures { self.new.text ≡ None }
+        ensures text { self.new.text ≡ None }
+        ensures calls { self.new.calls ≡ self.old.calls }
+        ensures refused { self.new.refused ≡ self.old.refused }
     {
         self.text = None;
     }
@@ -72,6 +74,8 @@ impl Transcript {
     pub fn add<D: fmt::Display + Drop>(&mut self, line: D)
         ensures calls { self.new.calls ≡ self.old.calls }
         ensures refused { self.new.refused ≡ self.old.refused }
+        ensures short { IsSome self.new.text → IsSome self.old.text }
+        ensures text { IfSome self.new.text (λ t. IfSome self.old.text (λ s. IfSome (option_append (D.Display.output line) (Some (10 ∷ []))) (λ bs. string_bytes t ≡ string_bytes s ++ bs))) }
         ensures told { (text : List ℕ) → D.Display.output line ≡ Some text → Tells (with_line text) self.old self.new }
     {
         self.push(line);
@@ -93,6 +97,7 @@ impl Transcript {
     pub fn answer(&mut self, word: Word, answer: Answer)
         ensures calls { self.new.calls ≡ one_more self.old.calls }
         ensures refused { self.new.refused ≡ one_more_if (is_refused answer) self.old.refused }
+        ensures text { Grown self.old.text self.new.text (answer_text word answer) }
         ensures told { Tells (answered word answer) self.old self.new }
     {
         self.count(is_refused(answer));
@@ -103,6 +108,7 @@ impl Transcript {
     pub fn accept(&mut self, word: Word)
         ensures calls { self.new.calls ≡ one_more self.old.calls }
         ensures refused { self.new.refused ≡ self.old.refused }
+        ensures text { Grown self.old.text self.new.text (word_text word ++ codes " ok") }
         ensures told { Tells (accepted word) self.old self.new }
     {
         self.count(false);

@@ -1,7 +1,7 @@
 use Rattle.std.proofs.Common.{◌≡◌, ap, ◌∙◌, arith}
 use Rattle.samples.specs.Deblocking.{deblocked, strength_of}
 use Rattle.deblocking.specs.Edges.{first, four_from, is_vertical, turn}
-use Rattle.deblocking.proofs.Edges.{four_writings, kept_place, turned_write}
+use Rattle.deblocking.proofs.Edges.{four_writings, turned_write}
 use Rattle.deblocking.proofs.Edge.smooth_place.Goals as goal
 
 pub returns : goal.returns
@@ -19,11 +19,3 @@ returns g c =
     (ap (λ s. s.a) new) (ap (λ s. s.b) new) (ap (λ s. s.c) new) (ap (λ s. s.d) new)
     (turned_write t f f₁ _ _ _ _ c.write_at.ensures) (turned_write t f₁ f₂ _ _ _ _ c.write_at-2.ensures)
     (turned_write t f₂ f₃ _ _ _ _ c.write_at-3.ensures) (turned_write t f₃ _ _ _ _ _ c.write_at-4.ensures)
-
-pub returns-then-is_kept : goal.returns-then-is_kept
-returns-then-is_kept g c =
-    let e = c.args.self in
-    let f = turn (is_vertical e.direction) (g.S.Store.picture c.args.store.now) in
-    let same : deblocked (strength_of c.args.quantizer) (four_from f.sample e.plane c.args.along (first e.number)) ≡ four_from f.sample e.plane c.args.along (first e.number)
-    = simp (c.sample_at.ensures, c.sample_at-2.ensures, c.sample_at-3.ensures, c.sample_at-4.ensures) at (c.is_kept.ensures c.if-is_kept.true) in
-    kept_place c.args.quantizer f e.plane c.args.along e.number (omega arith) same

@@ -1,4 +1,4 @@
-use Rattle.std.proofs.Common.{◌+◌, ◌∷◌, ◌<◌, ◌^◌, length, refl, sym, ap, arith}
+use Rattle.std.proofs.Common.{◌+◌, ◌<◌, ◌^◌, length, refl, sym, ap, arith}
 use Rattle.records.specs.Again.{records_of}
 use Rattle.transcripts.specs.Macroblocks.{numbered_text}
 use Rattle.transcripts.specs.Told.{with_line}

@@ -1,4 +1,4 @@
-use Rattle.std.proofs.Common.{◌≡◌, ◌+◌, ◌<◌, ◌^◌, length}
+use Rattle.std.proofs.Common.{◌+◌, ◌<◌, ◌^◌, length}
 use Rattle.records.specs.Again.{records_of}
 use Rattle.transcripts.proofs.Telling.{Leads}
 use Rattle.player.specs.Plays.{tell_macroblocks}

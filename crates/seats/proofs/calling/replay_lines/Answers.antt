@@ -14,11 +14,11 @@ tell-requires c =
     ∙ ap length (c.as_slice.ensures.value ∙ sym c.as_slice-in-Ok-replay.ensures.value)
 
 pub returns-in-Ok-replay-clause-told : goal.returns-in-Ok-replay-clause-told
-returns-in-Ok-replay-clause-told c =
+returns-in-Ok-replay-clause-told c = λ last.
     let w = setting_at c.args.stage (meaning_of c.args.transform) (held_by c.args.memory.now) in
     let R = state_of c.args.stage (held_by c.args.memory.now) in
     let made : calls_of c.as_slice.result.now ≡ calls_in c.args.lines.now = ap calls_of c.as_slice.ensures.value ∙ c.in-Ok.ensures in
     let said : calls_of c.as_slice-in-Ok-replay.result.now ≡ calls_in c.args.lines.now = ap calls_of c.as_slice-in-Ok-replay.ensures.value ∙ c.in-Ok.ensures in
     replayed_told w R (calls_of c.as_slice-in-Ok-replay.result.now) (calls_in c.args.lines.now) c.as_slice-in-Ok-replay-2.result.now (held_by c.replay.new.self) c.args.transcript.now c.tell.new.transcript
     said (c.as_slice-in-Ok-replay-2.ensures.value ∙ c.in-Ok-replay.ensures.answered ∙ ap (replies w R) made)
-    (ap (λ (s : State). s.contents.held) (c.in-Ok-replay.ensures.runs ∙ ap (run w R) made)) c.requires.closing c.tell.ensures
+    (ap (λ (s : State). s.contents.held) (c.in-Ok-replay.ensures.runs ∙ ap (run w R) made)) last c.tell.ensures

@@ -1,6 +1,5 @@
-use Rattle.std.proofs.Common.{◌≡◌, ℕ, Some, None, Option, replicate, refl, ap, ◌∙◌, rules}
+use Rattle.std.proofs.Common.{◌≡◌, None, replicate, refl, ap, ◌∙◌, rules}
 use Rattle.calls.specs.Held.{cells_of}
-use Rattle.motion.specs.declared.vectors.Vector.{Vector}
 use Rattle.seats.specs.Seats.{still}
 use Rattle.seats.proofs.memories.with_tables.Goals as goal
 

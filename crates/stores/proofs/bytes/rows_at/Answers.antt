@@ -1,16 +1,21 @@
-use Rattle.std.proofs.Common.{◌*◌, sym, ap, ◌∙◌}
-use Rattle.pictures.proofs.Addresses.{within}
+use Rattle.std.proofs.Common.{◌+◌, ◌*◌, sym, ap, ◌∙◌, arith}
+use Rattle.pictures.proofs.Addresses.{inside_before, within}
 use Rattle.stores.proofs.InBytes.{square_kept}
 use Rattle.stores.proofs.bytes.rows_at.Goals as goal
 
+pub address-at-requires : goal.address-at-requires
+address-at-requires c =
+    let a = c.args in
+    inside_before _ _ _ a.across a.down (a.across + 7) (a.down + 7) (omega arith) (omega arith) (sym c.is_inside.ensures ∙ c.if-not-is_inside.false)
+
 pub returns : goal.returns
 returns c =
-    let at = c.in_ok-at.ensures in
+    let a = c.args in
     let last = sym c.is_inside.ensures ∙ c.if-not-is_inside.false in
     record {
-      isin = at.isin;
+      isin = c.address-at.ensures.isin;
       last = last;
-      from = at.from;
-      apart = ap (λ s. c.args.size.columns * s) c.side_of.ensures;
-      kept = rw (at.from, c.side_of.ensures) (square_kept c.args.size.columns c.args.size.rows c.args.plane c.args.across c.args.down (within _ _ _ _ _ last));
+      from = c.address-at.ensures.from;
+      apart = ap (λ s. a.size.columns * s) c.side_of.ensures;
+      kept = rw (c.address-at.ensures.from, c.side_of.ensures) (square_kept a.size.columns a.size.rows a.plane a.across a.down (within _ _ _ _ _ last));
     }

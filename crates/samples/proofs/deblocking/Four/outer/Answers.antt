@@ -2,4 +2,4 @@ use Rattle.samples.proofs.Corrections.{outer_size_lem}
 use Rattle.samples.proofs.deblocking.Four.outer.Goals as goal
 
 pub returns : goal.returns
-returns c = let h = outer_size_lem c.args.strength c.args.self in let i = c.inner.ensures in cc
+returns c = let h = outer_size_lem c.args.strength c.args.self.now in let i = c.inner.ensures in cc

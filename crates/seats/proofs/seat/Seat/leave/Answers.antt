@@ -11,8 +11,8 @@ use Rattle.seats.specs.Tellings.{tell_leaving}
 use Rattle.seats.proofs.Telling.{left_told}
 use Rattle.seats.proofs.seat.Seat.leave.Goals as goal
 
-pub returns : goal.returns
-returns c =
+pub returns-clause-told : goal.returns-clause-told
+returns-clause-told c =
     let h = held_by c.args.self.memory in
     let m = meaning_of c.args.self.transform in
     let fit : fits c.in-Open.slip.reel.format h ≡ true = subst (λ s. fits (format_of s) h ≡ true) c.in-Open.is c.args.self.fit in

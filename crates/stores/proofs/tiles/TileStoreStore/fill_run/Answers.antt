@@ -12,7 +12,7 @@ returns-in-Some c =
     record {
       next = (omega arith, at.ends);
       after = word_filled mine.size.columns mine.size.rows c.args.plane c.args.across c.args.down c.args.right w
-          (vec_items mine.memory) c.from_be_bytes.result c.args.value at lt (omega (arith, c.ranges.value)) c.from_be_bytes.ensures;
+          (vec_items mine.memory) c.word_of_one.result c.args.value at lt (omega (arith, c.ranges.value)) c.word_of_one.ensures;
     }
 
 pub returns : goal.returns

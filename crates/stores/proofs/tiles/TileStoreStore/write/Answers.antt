@@ -1,8 +1,8 @@
 use Rattle.std.proofs.Common.{◌≡◌, ◌/◌, ◌%◌, ◌<◌, length, get_or, set, vec_items, sym, ap, ◌∙◌, arith}
 use Rattle.std.proofs.lemmas.List.{get_or_read}
 use Rattle.pictures.proofs.Addresses.{writes, writes_nothing}
-use Rattle.stores.specs.Tiles.{tile_address, four, lane_at}
-use Rattle.stores.proofs.InTiles.{joined, tiles_apart, lane_set}
+use Rattle.stores.specs.Tiles.{tile_address, four, joined, lane_at}
+use Rattle.stores.proofs.InTiles.{tiles_apart, lane_set}
 use Rattle.stores.proofs.tiles.TileStoreStore.write.Goals as goal
 
 pub returns : goal.returns

@@ -1,4 +1,4 @@
-use Rattle.std.proofs.Common.{◌++◌, rules, false}
+use Rattle.std.proofs.Common.{rules, false}
 use Rattle.std.specs.Fmt.{digits}
 use Rattle.transcripts.proofs.Padded.{six_wide}
 use Rattle.transcripts.proofs.macroblocks.BitsDisplay.fmt.Goals as goal

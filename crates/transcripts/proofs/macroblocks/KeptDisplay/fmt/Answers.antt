@@ -1,4 +1,3 @@
-use Rattle.transcripts.specs.Macroblocks.{macroblock_text}
 use Rattle.transcripts.proofs.macroblocks.KeptDisplay.fmt.Goals as goal
 
 pub returns-in-Inter-clause-writes : goal.returns-in-Inter-clause-writes

@@ -1,0 +1,18 @@
+use Rattle.std.proofs.Common.{◌+◌, arith, ap, ◌∙◌, get_or}
+use Rattle.pictures.proofs.Addresses.{inside_before}
+use Rattle.stores.specs.Tiles.{tiles_seen}
+use Rattle.stores.proofs.InTiles.{eight_moved}
+use Rattle.stores.proofs.tiles.eight_from.Goals as goal
+
+pub four_at-first-requires-clause-isin : goal.four_at-first-requires-clause-isin
+four_at-first-requires-clause-isin c = inside_before _ _ _ c.args.across c.args.down (c.args.across + 7) c.args.down (omega arith) (omega arith) c.requires.inside
+
+pub four_at-second-requires-clause-isin : goal.four_at-second-requires-clause-isin
+four_at-second-requires-clause-isin c = inside_before _ _ _ (c.args.across + 4) c.args.down (c.args.across + 7) c.args.down (omega arith) (omega arith) c.requires.inside
+
+pub returns : goal.returns
+returns c = λ i h.
+    let a = c.args in
+    ap (λ eight. get_or eight i 0) c.eight_of.ensures
+    ∙ eight_moved (tiles_seen a.size.columns a.size.rows a.words.now) a.plane a.across a.down c.four_at-first.result c.four_at-second.result c.four_at-third.result
+    c.shifted.result c.shifted-2.result c.four_at-first.ensures c.four_at-second.ensures c.four_at-third.ensures c.shifted.ensures c.shifted-2.ensures i h
