@@ -8,4 +8,5 @@ pub mod Alike
 pub mod Others
 pub mod Twins
 pub mod Counts
+pub mod Acceptance
 pub mod Law

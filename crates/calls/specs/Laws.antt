@@ -1,6 +1,6 @@
 -- The law over every run. Runs begin with a new reel, over memory that holds anything, and make any list of calls, in any order, repeated, refused or
 -- out of turn.
-use Rattle.std.specs.Prelude.{◌≡◌, ℕ, suc, ◌+◌, ◌-◌, ◌*◌, ◌/◌, min, Bool, true, false, cond, not, ◌&&◌, ◌||◌, ◌≢◌, ◌⊎◌, List, [], ◌∷◌, ℤ, Some, None, Option, ◌==◌}
+use Rattle.std.specs.Prelude.{◌≡◌, ℕ, suc, ◌+◌, ◌-◌, ◌*◌, ◌/◌, min, Bool, true, false, cond, not, ◌&&◌, ◌||◌, ◌≢◌, ◌⊎◌, List, [], ◌∷◌, map, ℤ, Some, None, Option, ◌==◌}
 use Rattle.records.specs.declared.types.Macroblock.{Macroblock}
 use Rattle.records.specs.declared.types.PictureKind.{PictureKind}
 use Rattle.records.specs.declared.types.PictureKind.TheVariants as picture
@@ -13,10 +13,10 @@ use Rattle.rebuild.specs.Rebuilt.{accepted as records_of}
 use Rattle.calls.specs.declared.answers.Answer.{Answer}
 use Rattle.calls.specs.declared.answers.Answer.TheVariants.{Opened, Delivered, Closed, Sample, Age, Refused, OutOfTurn}
 use Rattle.calls.specs.declared.faults.PictureFault.TheVariants as fault
-use Rattle.calls.specs.Held.{Held}
+use Rattle.calls.specs.Held.{Held, fits_rest, fits_store, fits_table}
 use Rattle.calls.specs.Questions.{in_grid, kind_of, macroblocks_in}
 use Rattle.calls.specs.Effects.{age_at}
-use Rattle.calls.specs.Runs.{Calling, opening, delivering, closing, asking_sample, asking_age, Setting, setting_of, State, new, reply, run, shows, step}
+use Rattle.calls.specs.Runs.{Calling, opening, delivering, closing, asking_sample, asking_age, Setting, setting_of, State, new, replies, reply, run, shows, step}
 
 -- a place of a picture of a format, and its macroblock row
 abbrev pub in_picture : Format → ℕ → ℕ → ℕ → Bool
@@ -197,6 +197,30 @@ pub record Aged (w : Setting) (h : Held) (cs : List Calling) : Type 0 where
       → age_in w.format (run w (new h) cs) c r ≡ age_by c r (closed_by w h cs)
   pub told : (c r a : ℕ) → reply w (run w (new h) cs) (asking_age c r) ≡ Age a → a ≡ age_by c r (closed_by w h cs)
 
+-- Acceptance: what is accepted follows from the calls, the format and which parts of the memory fit it ----------------------
+
+-- Two memories fit a format alike: each part that is asked for its size, the finished store, the finished ages or the rest, has it in both or in
+-- neither. They may hold anything.
+pub record FitAlike (format : Format) (h i : Held) : Type 0 where
+  pub store : fits_store format h.finished ≡ fits_store format i.finished
+  pub ages : fits_table format h.finished_ages ≡ fits_table format i.finished_ages
+  pub rest : fits_rest format h ≡ fits_rest format i
+
+-- an answer but for the value of a sample or an age
+abbrev pub but_value : Answer → Answer
+but_value (Opened segments) = Opened segments
+but_value (Delivered counts) = Delivered counts
+but_value (Closed bits) = Closed bits
+but_value (Sample value) = Sample 0
+but_value (Age age) = Age 0
+but_value (Refused f) = Refused f
+but_value OutOfTurn = OutOfTurn
+
+-- Every call of a list on a new reel is answered alike but for such values, and the pictures closed, which every count is read off, are the same.
+pub record AcceptedAlike (w v : Setting) (h i : Held) (cs : List Calling) : Type 0 where
+  pub answers : map but_value (replies w (new h) cs) ≡ map but_value (replies v (new i) cs)
+  pub counted : closed_by w h cs ≡ closed_by v i cs
+
 -- The law --------------------------------------------------------------------------------------------------------------------
 
 -- For every format and every meaning of a transform, and whatever the memory holds:
@@ -215,6 +239,10 @@ pub record Law (format : Format) (meaning : List ℤ → ℕ → ℕ → ℤ) : 
       (closing ∷ later)
   -- Age. Every age is the smaller of 250 and the count, or 255.
   pub ages : (h : Held) (cs : List Calling) → Aged (setting_of format meaning h) h cs
+  -- Acceptance. Memories that fit alike, whatever they hold, and any two meanings of a transform accept the same calls: so what is accepted, and every
+  -- count, follows from the calls, the format and what fits.
+  pub acceptance : (h i : Held) (other : List ℤ → ℕ → ℕ → ℤ) → FitAlike format h i → (cs : List Calling)
+      → AcceptedAlike (setting_of format meaning h) (setting_of format other i) h i cs
 
 abbrev pub LawOverRuns : Type 0
 LawOverRuns = (format : Format) (meaning : List ℤ → ℕ → ℕ → ℤ) → Law format meaning
