@@ -1,12 +1,14 @@
 -- What C holds of a reel, and one call on it.
-use Rattle.std.specs.Prelude.{◌≡◌, ℕ, List, Some, None, Option}
+use Rattle.std.specs.Prelude.{◌≡◌, ℕ, false, List, Some, None, Option}
 use Rattle.std.specs.Borrow.{Lends, MutBor}
 use Rattle.std.specs.Box.Ownership.{box_owns}
 use Rattle.std.specs.contracts.impls.GlobalAllocator.TheImpl.{ghosts as allocator}
 use base.Fml.{Fml, ftrue}
 use denote.RawPtr.{Ptr}
 use Rattle.pictures.specs.Pictures.{Picture}
+use Rattle.calls.specs.Laws.{granted}
 use Rattle.calls.specs.Runs.{Calling, reply, Setting, State, step}
+use Rattle.replay.specs.Stages.{writes}
 use Rattle.seats.specs.Steps.{setting_in, state_in}
 use Rattle.handles.specs.declared.answer.AnswerNumbers.{AnswerNumbers}
 use Rattle.handles.specs.declared.handle.ReelHandle.{ReelHandle}
@@ -47,8 +49,11 @@ finished_at h = (state_at h).contents.held.finished
 abbrev pub ages_at : ReelHandle → List ℕ
 ages_at h = (state_at h).contents.held.finished_ages
 
--- what one call makes of what lies behind a handle, and its answer in numbers
+-- What one call makes of what lies behind a handle, and its answer in numbers. The very stage stays where the call is not accepted, and the very memory where
+-- nothing is written.
 pub record Answered (h : ReelHandle) (call : Calling) (h' : ReelHandle) (numbers : AnswerNumbers) : Type 0 where
   pub state : state_at h' ≡ step (setting_at h) (state_at h) call
   pub answer : numbers ≡ numbers_of (reply (setting_at h) (state_at h) call)
   pub setting : setting_at h' ≡ setting_at h
+  pub stays : granted (reply (setting_at h) (state_at h) call) ≡ false → h'.kept.seat.stage ≡ h.kept.seat.stage
+  pub untouched : writes (reply (setting_at h) (state_at h) call) ≡ false → h'.kept.seat.memory ≡ h.kept.seat.memory

@@ -1,3 +1,3 @@
+pub mod Lines
 pub mod Seeing
-pub mod Batches
 pub mod Onward

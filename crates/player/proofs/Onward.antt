@@ -1,10 +1,12 @@
--- The lines of a script, batch after batch.
-use Rattle.std.proofs.Common.{◌≡◌, ℕ, ◌+◌, ◌-◌, ◌<◌, ◌≤◌, List, [], length, get_or, take, drop, map, IsSome, IfOk, Global, Some, None, Ok, Err, Option, Result, String, string_bytes, sym, refl, ap, ◌∙◌, subst, arith}
+-- The lines of a script, one after the other.
+use Rattle.std.proofs.Common.{◌≡◌, ℕ, ◌+◌, ◌<◌, ◌≤◌, List, [], length, get_or, drop, map, IsSome, IfOk, Global, Some, None, Ok, Err, Option, Result, String, string_bytes, sym, refl, ap, ◌∙◌}
 use Rattle.std.specs.Option.{option_map}
 use Rattle.std.specs.Result.{result_ok}
 use Rattle.std.proofs.lemmas.List.{at_drop_more, drop_all}
 use Rattle.std.specs.declared.alloc.AllocError.{AllocError}
+use Rattle.script.specs.declared.line.Mistake.{Mistake}
 use Rattle.script.specs.Fields.{lines_of}
+use Rattle.call_lines.specs.declared.line.Line.{Line}
 use Rattle.call_lines.specs.declared.line.StoreKind.{StoreKind}
 use Rattle.call_lines.specs.declared.line.TransformKind.TheVariants.{TwoPass}
 use Rattle.call_lines.specs.Lines.{line_of, told}
@@ -13,72 +15,27 @@ use Rattle.transcripts.specs.Answers.{Grown, done_text, line_after}
 use Rattle.transcripts.specs.Told.{Tells, Told, told_by}
 use Rattle.seats.specs.declared.seat.Choices.{Choices}
 use Rattle.seats.specs.declared.seat.Seat.{Seat}
-use Rattle.seats.specs.Turns.{calls_in}
-use Rattle.player.specs.declared.playing.Gathering.TheVariants.{Joins, Ends}
-use Rattle.player.specs.Gatherings.{gathering_of}
-use Rattle.player.specs.Plays.{Played, answers_to, calls_made, done, ended, leaving, line_played, lines_played, told_of}
+use Rattle.player.specs.Plays.{Played, answers_to, done, ended, leaving, line_played, lines_played, told_of}
 use Rattle.player.specs.Seen.{Plays, playing_in}
 use Rattle.transcripts.proofs.Telling.{tells_had}
-use Rattle.player.proofs.Batches.{Calling_or_blank, Gathered, Said, batch_played, ended_calls, gathered_calls, gathered_push, slice_push}
 use Rattle.player.proofs.Seeing.{Left, left_more, view}
 
+abbrev Said : Type 0
+Said = Result (Option Line) Mistake
+
 module _ (ls : List Said) (seat₀ : Option Seat) (choices₀ : Choices) (old : Transcript) where
-  -- what is gathered stands before the line, and makes calls; the lines from the first of it on are left to be played
-  abbrev pub PlayedTo : ℕ → ℕ → Option Seat → Choices → Transcript → Type 0
-  PlayedTo first index seat choices now =
-      (first ≤ index)
-      × Gathered (take (index - first) (drop first ls))
-      × Left (lines_played 1 (map told ls)) seat₀ choices₀ old (lines_played (first + 1) (map told (drop first ls))) seat choices now
+  -- the lines from this one on are left to be played
+  abbrev pub PlayedTo : ℕ → Option Seat → Choices → Transcript → Type 0
+  PlayedTo index seat choices now = Left (lines_played 1 (map told ls)) seat₀ choices₀ old (lines_played (index + 1) (map told (drop index ls))) seat choices now
 
-  -- the line joins what is gathered
-  pub joined : (first index : ℕ) (seat : Option Seat) (choices : Choices) (now : Transcript) (l : Said) → PlayedTo first index seat choices now
-      → l ≡ get_or ls index l → index < length ls → gathering_of (told l) ≡ Joins → PlayedTo first (index + 1) seat choices now
-  joined first index seat choices now l was is below g =
-      let le : first ≤ index = was.0 in
-      let more : first ≤ index + 1 = omega arith in
-      let gathered = gathered_push (take (index - first) (drop first ls)) (get_or ls index l) was.1 (subst (λ k. gathering_of (told k) ≡ Joins) is g) in
-      (more, subst Gathered (sym (slice_push ls first index l le below)) gathered, was.2)
-
-  -- nothing is gathered
-  none_gathered : (index : ℕ) → Gathered (take (index + 1 - (index + 1)) (drop (index + 1) ls))
-  none_gathered index = let none : index + 1 - (index + 1) ≡ 0 = omega arith in subst (λ k. Gathered (take k (drop (index + 1) ls))) (sym none) tt
-
-  -- the line ends it
-  pub closed : (first index : ℕ) (seat : Option Seat) (choices : Choices) (now : Transcript) (l : Said) (seat' : Option Seat) (new : Transcript) → PlayedTo first index seat choices now
-      → l ≡ get_or ls index l → index < length ls → gathering_of (told l) ≡ Ends
-      → Plays (calls_made (calls_in (take (index + 1 - first) (drop first ls)))) seat choices now seat' choices new → PlayedTo (index + 1) (index + 1) seat' choices new
-  closed first index seat choices now l seat' new was is below g made =
-      let le : first ≤ index = was.0 in
-      let more : first ≤ index + 1 = omega arith in
-      let high : index + 1 ≤ length ls = omega arith in
-      let same : index + 1 ≤ index + 1 = omega arith in
-      let gathered = ended_calls (take (index - first) (drop first ls)) (get_or ls index l) was.1 (subst (λ k. gathering_of (told k) ≡ Ends) is g) in
-      let calls = subst Calling_or_blank (sym (slice_push ls first index l le below)) gathered in (
-        same,
-        none_gathered index,
-        left_more (lines_played 1 (map told ls)) seat₀ choices₀ old (lines_played (first + 1) (map told (drop first ls))) (calls_made (calls_in (take (index + 1 - first) (drop first ls))))
-            (lines_played (index + 1 + 1) (map told (drop (index + 1) ls))) seat choices now seat' choices new was.2 made (λ p. batch_played ls first (index + 1) p more high calls),
-      )
-
-  -- the line has it played first
-  pub interrupted : (first index : ℕ) (seat : Option Seat) (choices : Choices) (now : Transcript) (l : Said) (seat' : Option Seat) (mid : Transcript) (seat'' : Option Seat) (choices' : Choices) (new : Transcript)
-      → PlayedTo first index seat choices now → l ≡ get_or ls index l → index < length ls
-      → Plays (calls_made (calls_in (take (index - first) (drop first ls)))) seat choices now seat' choices mid → Plays (line_played (index + 1) (told l)) seat' choices mid seat'' choices' new
-      → PlayedTo (index + 1) (index + 1) seat'' choices' new
-  interrupted first index seat choices now l seat' mid seat'' choices' new was is below made played =
-      let all = lines_played 1 (map told ls) in
-      let le : first ≤ index = was.0 in
-      let high : index ≤ length ls = omega arith in
-      let same : index + 1 ≤ index + 1 = omega arith in
-      let here = lines_played (index + 1) (map told (drop index ls)) in
-      let first_left = left_more all seat₀ choices₀ old (lines_played (first + 1) (map told (drop first ls))) (calls_made (calls_in (take (index - first) (drop first ls)))) here
-      seat choices now seat' choices mid was.2 made (λ p. batch_played ls first index p le high (gathered_calls (take (index - first) (drop first ls)) was.1)) in (
-        same,
-        none_gathered index,
-        left_more all seat₀ choices₀ old here (line_played (index + 1) (told l)) (lines_played (index + 1 + 1) (map told (drop (index + 1) ls))) seat' choices mid seat'' choices' new first_left played
-            (λ p. ap (λ k. lines_played (index + 1 + 1) (map told (drop (index + 1) ls)) (line_played (index + 1) (told k) p)) is
-            ∙ sym (at_drop_more (λ xs. lines_played (index + 1) (map told xs) p) ls index l below)),
-      )
+  -- one line more is played
+  pub played : (index : ℕ) (seat : Option Seat) (choices : Choices) (now : Transcript) (l : Said) (seat' : Option Seat) (choices' : Choices) (new : Transcript) → PlayedTo index seat choices now
+      → l ≡ get_or ls index l → index < length ls → Plays (line_played (index + 1) (told l)) seat choices now seat' choices' new → PlayedTo (index + 1) seat' choices' new
+  played index seat choices now l seat' choices' new was is below turn =
+      left_more (lines_played 1 (map told ls)) seat₀ choices₀ old (lines_played (index + 1) (map told (drop index ls))) (line_played (index + 1) (told l))
+      (lines_played (index + 1 + 1) (map told (drop (index + 1) ls))) seat choices now seat' choices' new was turn
+      (λ p. ap (λ k. lines_played (index + 1 + 1) (map told (drop (index + 1) ls)) (line_played (index + 1) (told k) p)) is
+      ∙ sym (at_drop_more (λ xs. lines_played (index + 1) (map told xs) p) ls index l below))
 
 over_end : (all : Played → Played) (v v' : Told → Played) (o o' : Option Told) → option_map (λ p. p) (option_map v' o') ≡ option_map all (option_map v o) → option_map (λ t. ended (v' t)) o' ≡ option_map (λ t. ended (all (v t))) o
 over_end all v v' None None e = refl
@@ -86,23 +43,18 @@ over_end all v v' None (Some t) e = ap (option_map ended) e
 over_end all v v' (Some t) None e = ap (option_map ended) e
 over_end all v v' (Some t) (Some u) e = ap (option_map ended) e
 
--- after the last line what is gathered is played, and the seat is left
-pub all_played : (ls : List Said) (kind : StoreKind) (old : Transcript) (first index : ℕ) (seat : Option Seat) (choices : Choices) (now : Transcript) (seat' : Option Seat) (mid new : Transcript)
-    → PlayedTo ls None (record { store = kind; transform = TwoPass }) old first index seat choices now → index ≡ length ls
-    → Plays (calls_made (calls_in (take (length ls - first) (drop first ls)))) seat choices now seat' choices mid → Tells (leaving (playing_in seat')) mid new
+-- after the last line the seat is left
+pub all_played : (ls : List Said) (kind : StoreKind) (old : Transcript) (index : ℕ) (seat : Option Seat) (choices : Choices) (now new : Transcript)
+    → PlayedTo ls None (record { store = kind; transform = TwoPass }) old index seat choices now → length ls ≤ index → Tells (leaving (playing_in seat)) now new
     → Tells (told_of kind (map told ls)) old new
-all_played ls kind old first index seat choices now seat' mid new was last made left =
-    let all = lines_played 1 (map told ls) in
+all_played ls kind old index seat choices now new was last left =
     let start : Choices = record { store = kind; transform = TwoPass } in
-    let le : first ≤ length ls = omega (arith, was.0, last) in
-    let high : length ls ≤ length ls = omega arith in
-    let gathered = subst (λ k. Gathered (take (k - first) (drop first ls))) last was.1 in
-    let calls = calls_in (take (length ls - first) (drop first ls)) in
-    let fin = left_more all None start old (lines_played (first + 1) (map told (drop first ls))) (calls_made calls) (λ p. p) seat choices now seat' choices mid was.2 made
-    (λ p. ap (λ xs. lines_played (length ls + 1) (map told xs) (calls_made calls p)) (sym (drop_all (length ls) ls high))
-    ∙ batch_played ls first (length ls) p le high (gathered_calls (take (length ls - first) (drop first ls)) gathered)) in
     record {
-      told = λ some. left.told some ∙ over_end all (view None start) (view seat' choices) (told_by old) (told_by mid) (fin.left (tells_had (leaving (playing_in seat')) mid new left some));
+      told = λ some.
+          left.told some
+          ∙ over_end (lines_played 1 (map told ls)) (view None start) (view seat choices) (told_by old) (told_by now)
+          (ap (λ xs. option_map (lines_played (index + 1) (map told xs)) (option_map (view seat choices) (told_by now))) (sym (drop_all index ls last))
+          ∙ was.left (tells_had (leaving (playing_in seat)) now new left some));
     }
 
 from_bytes : {A : Type 0} (o : Option (String A)) → option_map string_bytes o ≡ Some [] → ◌≡◌ {A = Option Told} (option_map (λ s. record { text = string_bytes s; calls = 0; refused = 0 }) o) (Some (record { text = []; calls = 0; refused = 0 }))

@@ -1,7 +1,7 @@
 -- What lines come to, step after step.
 use Rattle.std.proofs.Common.{◌≡◌, List, [], ◌∷◌, IsSome, Some, None, Option, Ok, sym, refl, ap, ◌∙◌, subst, string_bytes}
 use Rattle.std.specs.Option.{option_map}
-use Rattle.calls.specs.Runs.{Calling, Setting, State, run, step}
+use Rattle.calls.specs.Runs.{Calling, step}
 use Rattle.call_lines.specs.declared.line.StoreKind.{StoreKind}
 use Rattle.call_lines.specs.declared.line.TransformKind.{TransformKind}
 use Rattle.transcripts.specs.declared.transcript.Transcript.{Transcript}
@@ -9,7 +9,7 @@ use Rattle.transcripts.specs.Told.{Tells, Told, accepted, told_by}
 use Rattle.seats.specs.declared.seat.Choices.{Choices}
 use Rattle.seats.specs.declared.seat.Seat.{Seat}
 use Rattle.seats.specs.Steps.{setting_in, state_in}
-use Rattle.seats.specs.Tellings.{miss_calls, tell_calls}
+use Rattle.seats.specs.Tellings.{miss_call, tell_call}
 use Rattle.pictures.specs.declared.formats.Format.{Format}
 use Rattle.reel.specs.Calls.{new_reel}
 use Rattle.reel.specs.declared.reels.Reel.{Reel}
@@ -18,7 +18,7 @@ use Rattle.replay.specs.Stages.{setting_at, state_of}
 use Rattle.transcripts.specs.declared.answers.Word.TheVariants as word
 use Rattle.transcripts.proofs.Telling.{tells_then}
 use Rattle.seats.specs.Seats.{blank, held_by, meaning_of}
-use Rattle.player.specs.Plays.{Played, Playing, begun, calls_made, leaving, telling}
+use Rattle.player.specs.Plays.{Played, Playing, begun, leaving, make_call, telling}
 use Rattle.player.specs.Seen.{Plays, playing_in, seen}
 
 abbrev pub view : Option Seat → Choices → Told → Played
@@ -38,27 +38,24 @@ plays_from f g seat choices old seat' choices' new p e =
 pub plays_told : (g : Told → Told) (seat : Option Seat) (choices : Choices) (old new : Transcript) → Tells g old new → Plays (telling g) seat choices old seat choices new
 plays_told g seat choices old new p = plays_from (telling g) g seat choices old seat choices new p (λ some t. refl)
 
--- calls without a reel, and with one
-pub calls_missed : (cs : List Calling) (store : StoreKind) (transform : TransformKind) (t : Told)
-    → calls_made cs (record { store = store; transform = transform; reel = None; told = t }) ≡ record { store = store; transform = transform; reel = None; told = miss_calls cs t }
-calls_missed [] store transform t = refl
-calls_missed (c ∷ cs) store transform t = calls_missed cs store transform _
+-- a call without a reel, and with one
+pub missed_plays : (c : Calling) (choices : Choices) (old new : Transcript) → Tells (miss_call c) old new → Plays (make_call c) None choices old None choices new
+missed_plays c choices old new p = plays_from (make_call c) (miss_call c) None choices old None choices new p (λ some t. refl)
 
-pub calls_run : (w : Setting) (R : State) (cs : List Calling) (store : StoreKind) (transform : TransformKind) (t : Told)
-    → calls_made cs (record { store = store; transform = transform; reel = Some (record { setting = w; state = R }); told = t })
-    ≡ record { store = store; transform = transform; reel = Some (record { setting = w; state = run w R cs }); told = tell_calls w R cs t }
-calls_run w R [] store transform t = refl
-calls_run w R (c ∷ cs) store transform t = calls_run w (step w R c) cs store transform _
+pub made_plays : (c : Calling) (seat seat' : Seat) (choices : Choices) (old new : Transcript) → state_in seat' ≡ step (setting_in seat) (state_in seat) c → setting_in seat' ≡ setting_in seat
+    → Tells (tell_call (setting_in seat) (state_in seat) c) old new → Plays (make_call c) (Some seat) choices old (Some seat') choices new
+made_plays c seat seat' choices old new s w p =
+    plays_from (make_call c) (tell_call (setting_in seat) (state_in seat) c) (Some seat) choices old (Some seat') choices new p
+    (λ some t. ap (λ (r : Playing). record { store = choices.store; transform = choices.transform; reel = Some r; told = tell_call (setting_in seat) (state_in seat) c t }) (λ i. record { setting = w i; state = s i }))
 
-pub missed_plays : (cs : List Calling) (choices : Choices) (old new : Transcript) → Tells (miss_calls cs) old new → Plays (calls_made cs) None choices old None choices new
-missed_plays cs choices old new p = plays_from (calls_made cs) (miss_calls cs) None choices old None choices new p (λ some t. sym (calls_missed cs choices.store choices.transform t))
+played_as : (f g : Played → Played) (o : Option Played) → ((p : Played) → f p ≡ g p) → option_map f o ≡ option_map g o
+played_as f g None e = refl
+played_as f g (Some p) e = ap Some (e p)
 
-pub made_plays : (cs : List Calling) (seat seat' : Seat) (choices : Choices) (old new : Transcript) → (IsSome new.text → state_in seat' ≡ run (setting_in seat) (state_in seat) cs) → setting_in seat' ≡ setting_in seat
-    → Tells (tell_calls (setting_in seat) (state_in seat) cs) old new → Plays (calls_made cs) (Some seat) choices old (Some seat') choices new
-made_plays cs seat seat' choices old new s w p =
-    plays_from (calls_made cs) (tell_calls (setting_in seat) (state_in seat) cs) (Some seat) choices old (Some seat') choices new p
-    (λ some t. ap (λ (r : Playing). record { store = choices.store; transform = choices.transform; reel = Some r; told = tell_calls (setting_in seat) (state_in seat) cs t }) (λ i. record { setting = w i; state = s some i })
-    ∙ sym (calls_run (setting_in seat) (state_in seat) cs choices.store choices.transform t))
+-- the same, said in another way
+pub plays_as : (f g : Played → Played) (seat : Option Seat) (choices : Choices) (old : Transcript) (seat' : Option Seat) (choices' : Choices) (new : Transcript) → ((p : Played) → f p ≡ g p)
+    → Plays f seat choices old seat' choices' new → Plays g seat choices old seat' choices' new
+plays_as f g seat choices old seat' choices' new e p = record { played = λ some. p.played some ∙ played_as f g (seen seat choices old) e }
 
 some_in : {X Y : Type 0} (v : X → Y) (o : Option X) → IsSome o → IsSome (option_map v o)
 some_in v None some = some

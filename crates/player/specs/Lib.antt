@@ -1,3 +1,2 @@
-pub mod Gatherings
 pub mod Plays
 pub mod Seen

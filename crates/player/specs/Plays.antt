@@ -57,11 +57,6 @@ made_on (Some r) c p =
 abbrev pub make_call : Calling → Played → Played
 make_call c p = made_on p.reel c p
 
--- call after call
-abbrev pub calls_made : List Calling → Played → Played
-calls_made [] p = p
-calls_made (c ∷ cs) p = calls_made cs (make_call c p)
-
 abbrev pub ages_on : Option Playing → Told → Told
 ages_on None t = answered word.Ages OutOfTurn t
 ages_on (Some r) t = tell_ages r.setting r.state t

@@ -4,29 +4,29 @@ ghost use Rattle.records.specs.Again.{records_of};
 ghost use Rattle.pictures.specs.Formats.{numbered};
 ghost use Rattle.script.specs.Fields.{lines_of};
 ghost use Rattle.script.specs.Lines.{meant as records_meant};
-ghost use Rattle.call_lines.specs.Lines.{line_of, meant, told};
+ghost use Rattle.calls.specs.Runs.{call_of};
+ghost use Rattle.call_lines.specs.Lines.{line_of, told};
 ghost use Rattle.transcripts.specs.Told.{Tells};
-ghost use Rattle.seats.specs.Tellings.{ClosesLast};
-ghost use Rattle.seats.specs.Turns.{call_in, calls_in};
-ghost use Rattle.player.specs.Gatherings.{gathering_by, gathering_of};
-ghost use Rattle.player.specs.Plays.{ages_on, answers_to, begun, calls_made, leaving, line_played, tell_macroblocks, tell_records, told_of};
+ghost use Rattle.seats.specs.Turns.{call_in};
+ghost use Rattle.player.specs.Plays.{ages_on, answers_to, begun, leaving, line_played, make_call, tell_macroblocks, tell_records, told_of};
 ghost use Rattle.player.specs.Seen.{Plays, playing_in};
 
 use call_lines::line::{Line, Said, StoreKind, TransformKind, read_line};
-use calls::answers::Answer;
+use calls::answers::{Answer, Call};
 use calls::faults::PictureFault;
 use records::checked::Delivery;
 use reel::reels::Reel;
 use script::fields::lines_of;
 use script::line::Records;
-use seats::calling::miss_calls;
+use seats::calling::call_of;
 use seats::seat::{Choices, Seat};
 use std::alloc::{AllocError, Global};
 use transcripts::answers::{Misread, Word};
 use transcripts::macroblocks::Numbered;
 use transcripts::transcript::Transcript;
 
-// The lines of a script. All are read before the first call is made, so that nothing that may fail stands between an opening and its closing.
+// The lines of a script. All are read before the first is played: while a picture may be open nothing is asked for that ends the playing, since its slip has
+// to be handed in.
 fn read_lines(heap: Global, script: &[u8]) -> Result<Vec<Said>, AllocError>
     ensures { IfOk result (λ lines. map told lines.items ≡ map line_of (lines_of script.now)) }
 {
@@ -38,21 +38,15 @@ fn read_lines(heap: Global, script: &[u8]) -> Result<Vec<Said>, AllocError>
     Ok(lines)
 }
 
-// Makes the calls that some lines gathered. (The seat goes by value from step to step, and not in a struct that is lent: a seat cannot be let go, so none
-// can be put over another. A struct of the rest would leave each step as many parameters but one.)
-fn make_calls(
-    seat: Option<Seat>,
-    heap: Global,
-    lines: &[Said],
-    transcript: &mut Transcript,
-) -> Option<Seat>
-    requires { ClosesLast (calls_in lines.now) }
-    ensures { (choices : Choices) → Plays (calls_made (calls_in lines.now)) seat choices transcript.old result choices transcript.new }
+// Makes a call on the reel there is, and tells the answer; without a reel it is out of turn. (The seat goes by value from step to step, and not in a struct
+// that is lent: a seat cannot be let go, so none can be put over another.)
+fn make_call(seat: Option<Seat>, call: &Call, transcript: &mut Transcript) -> Option<Seat>
+    ensures { (choices : Choices) → Plays (make_call (call_of call.now)) seat choices transcript.old result choices transcript.new }
 {
     match seat {
-        Some(seat) => Some(seat.make_calls(heap, lines, transcript)),
+        Some(seat) => Some(seat.make_call(call, transcript)),
         None => {
-            miss_calls(lines, transcript);
+            transcript.answer(Word::from(call), Answer::OutOfTurn);
             None
         }
     }
@@ -141,7 +135,7 @@ fn tell_records(records: &Records, transcript: &mut Transcript)
 }
 
 // Plays a line that makes no call on a reel.
-fn play_line(
+fn play_other(
     seat: Option<Seat>,
     heap: Global,
     number: usize,
@@ -169,36 +163,24 @@ fn play_line(
     seat
 }
 
-// What a line does to the calls that are gathered before it: three ways, and none of them is a failure or a lack.
-enum Gathering {
-    Joins,
-    Ends,
-    Interrupts,
-}
-
-fn gathering_of(line: &Said) -> Gathering
-    ensures { result ≡ gathering_of (told line.now) }
+// Plays a line.
+fn play_line(
+    seat: Option<Seat>,
+    heap: Global,
+    number: usize,
+    line: &Said,
+    choices: &mut Choices,
+    transcript: &mut Transcript,
+) -> Option<Seat>
+    ensures { Plays (line_played number (told line.now)) seat choices.old transcript.old result choices.new transcript.new }
 {
-    match line {
-        Ok(None) => Gathering::Joins,
-        Ok(Some(line)) => gathering_by(line),
-        Err(_) => Gathering::Interrupts,
+    match call_of(line) {
+        Some(call) => make_call(seat, &call, transcript),
+        None => play_other(seat, heap, number, line, choices, transcript),
     }
 }
 
-fn gathering_by(line: &Line) -> Gathering
-    ensures { result ≡ gathering_by (meant line.now) }
-{
-    match line {
-        Line::Open { .. } | Line::Deliver { .. } | Line::Sample { .. } | Line::Age { .. } => {
-            Gathering::Joins
-        }
-        Line::Close => Gathering::Ends,
-        _ => Gathering::Interrupts,
-    }
-}
-
-// Plays lines: the calls on a reel are made list by list, each up to a closing or to a line that makes no such call.
+// Plays lines, one after the other.
 fn play_lines(heap: Global, lines: &[Said], store: StoreKind, transcript: &mut Transcript)
     ensures { Tells (told_of store (map told lines.now)) transcript.old transcript.new }
 {
@@ -207,22 +189,9 @@ fn play_lines(heap: Global, lines: &[Said], store: StoreKind, transcript: &mut T
         transform: TransformKind::TwoPass,
     };
     let mut seat = None;
-    let mut first = 0;
     for (index, line) in lines.iter().enumerate() {
-        match gathering_of(line) {
-            Gathering::Joins => {}
-            Gathering::Ends => {
-                seat = make_calls(seat, heap, &lines[first..index + 1], transcript);
-                first = index + 1;
-            }
-            Gathering::Interrupts => {
-                seat = make_calls(seat, heap, &lines[first..index], transcript);
-                seat = play_line(seat, heap, index + 1, line, &mut choices, transcript);
-                first = index + 1;
-            }
-        }
+        seat = play_line(seat, heap, index + 1, line, &mut choices, transcript);
     }
-    seat = make_calls(seat, heap, &lines[first..], transcript);
     leave(seat, transcript);
 }
 

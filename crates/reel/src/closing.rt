@@ -1,5 +1,5 @@
 // Closing a picture.
-ghost use Rattle.std.specs.Prelude.{◌≡◌, ℕ, true, not, ◌&&◌, length, if◌then◌else◌, MatchResult};
+ghost use Rattle.std.specs.Prelude.{◌≡◌, ℕ, true, not, ◌&&◌, length, if◌then◌else◌, IfErr, MatchResult};
 ghost use Rattle.pictures.specs.Formats.{columns_of, rows_of};
 ghost use Rattle.pictures.specs.Pictures.{covers, painted};
 ghost use Rattle.pictures.specs.Segments.{has_bit, segment_at};
@@ -113,7 +113,7 @@ impl Slip {
     }
 
     // Closes the picture: fills the segments that were not accepted, makes the working picture the finished one, and gives the resting reel and the marks,
-    // of which bit k is set when segment k was accepted. A refusal hands the slip back.
+    // of which bit k is set when segment k was accepted. A refusal hands the slip back, and leaves the very memory.
     pub fn close<S: Store>(
         self,
         memory: &mut Memory<S>,
@@ -121,6 +121,7 @@ impl Slip {
         ensures answer { result ≡ closed self (judge_closing (fits self.reel.format (held_in S.picture memory.old))) }
         ensures memory { held_in S.picture memory.new ≡ held_closed self (judge_closing (fits self.reel.format (held_in S.picture memory.old))) (held_in S.picture memory.old) }
         ensures back { MatchResult result (λ p. p.0.format ≡ self.reel.format) (λ p. p.0 ≡ self) }
+        ensures untouched { IfErr result (λ _. memory.new ≡ memory.old) }
     {
         if !memory.fits(self.reel.format) {
             return Err((self, PictureFault::Size));
@@ -133,6 +134,8 @@ impl Slip {
             pictures: slip.reel.pictures,
             finished: Some(slip.layout),
         };
-        Ok((reel, slip.accepted))
+        let marks = slip.accepted;
+        drop(slip);
+        Ok((reel, marks))
     }
 }

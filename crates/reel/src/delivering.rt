@@ -1,5 +1,5 @@
 // Delivering a segment.
-ghost use Rattle.std.specs.Prelude.{◌≡◌, ℕ, ◌*◌, ◌^◌, ◌<◌, ◌≤◌, true, is_ok, vec_len, bit_or};
+ghost use Rattle.std.specs.Prelude.{◌≡◌, ℕ, ◌*◌, ◌^◌, ◌<◌, ◌≤◌, true, is_ok, vec_len, bit_or, IfErr};
 ghost use Rattle.motion.specs.Cells.{Room};
 ghost use Rattle.records.specs.Deliveries.{read};
 ghost use Rattle.pictures.specs.Segments.{has_bit};
@@ -111,7 +111,8 @@ impl Slip {
     }
 
     // Delivers a segment's bytes: where they are accepted the segment is rebuilt in the working picture, and its cells of the working ages, the vectors
-    // and the marks are set. Hands the slip back, and answers the counts of words and of INTRA macroblocks, or the fault.
+    // and the marks are set. Hands the slip back, and answers the counts of words and of INTRA macroblocks, or the fault, and
+    // then leaves the very memory.
     pub fn deliver<S: Store, T: Transform>(
         mut self,
         memory: &mut Memory<S>,
@@ -122,6 +123,7 @@ impl Slip {
         ensures slip { result.0 ≡ slip_after self segment (judged self (held_in S.picture memory.old) segment bytes.now) }
         ensures answer { result.1 ≡ counted bytes.now (judged self (held_in S.picture memory.old) segment bytes.now) }
         ensures memory { held_in S.picture memory.new ≡ held_after (T.meaning transform.now) self segment (judged self (held_in S.picture memory.old) segment bytes.now) (held_in S.picture memory.old) }
+        ensures untouched { IfErr result.1 (λ _. memory.new ≡ memory.old) }
         ensures format { result.0.reel.format ≡ self.reel.format }
         ensures size { fits self.reel.format (held_in S.picture memory.new) ≡ fits self.reel.format (held_in S.picture memory.old) }
     {

@@ -1,10 +1,11 @@
 -- A reel at rest or with a picture open, as runs have it.
-use Rattle.std.specs.Prelude.{◌≡◌, ℕ, Bool, false, List, ℤ, Ok, Err, Result}
+use Rattle.std.specs.Prelude.{◌≡◌, ℕ, Bool, true, false, List, ℤ, Ok, Err, Result, All}
 use Rattle.pictures.specs.declared.formats.Format.{Format}
 use Rattle.calls.specs.Held.{Held}
+use Rattle.calls.specs.Laws.{granted}
 use Rattle.calls.specs.Runs.{Calling, Control, control, open_to, replies, resting, run, Setting, setting_of, State}
 use Rattle.calls.specs.declared.answers.Answer.{Answer}
-use Rattle.calls.specs.declared.answers.Answer.TheVariants.{Opened, Closed, Refused}
+use Rattle.calls.specs.declared.answers.Answer.TheVariants.{Opened, Delivered, Closed, Sample, Age, Refused, OutOfTurn}
 use Rattle.calls.specs.declared.faults.PictureFault.{PictureFault}
 use Rattle.reel.specs.declared.reels.Reel.{Reel}
 use Rattle.reel.specs.declared.reels.Slip.{Slip}
@@ -53,14 +54,27 @@ abbrev pub answer_to : Result Answer PictureFault → Answer
 answer_to (Ok answer) = answer
 answer_to (Err f) = Refused f
 
+-- only an accepted delivery and an accepted closing write to the memory
+abbrev pub writes : Answer → Bool
+writes (Opened segments) = false
+writes (Delivered counts) = true
+writes (Closed marks) = true
+writes (Sample value) = false
+writes (Age age) = false
+writes (Refused f) = false
+writes OutOfTurn = false
+
+abbrev pub NoneWrites : List Answer → Type 0
+NoneWrites answers = All (λ a. writes a ≡ false) answers
+
+-- every call was refused or out of turn
+abbrev pub NoneGranted : List Answer → Type 0
+NoneGranted answers = All (λ a. granted a ≡ false) answers
+
 -- What a list of calls gives, from a stage over a memory that held something, with a transform of a meaning: the stage and the memory are those after
--- the run, the answers are the run's, and a slip that was not spent is not.
+-- the run, the answers are the run's, a slip that was not spent is not, and the very stage stays where no call is accepted.
 pub record Replayed (meaning : List ℤ → ℕ → ℕ → ℤ) (stage : Stage) (held : Held) (calls : List Calling) (stage' : Stage) (held' : Held) (answers : List Answer) : Type 0 where
   pub state : state_of stage' held' ≡ run (setting_at stage meaning held) (state_of stage held) calls
   pub answered : answers ≡ replies (setting_at stage meaning held) (state_of stage held) calls
   pub unspent : spent_of stage ≡ false → spent_of stage' ≡ false
-
--- the stage that is handed back, with answers or without
-abbrev pub stage_in : {X : Type 0} → Result (Stage × X) Stage → Stage
-stage_in (Ok p) = p.0
-stage_in (Err s) = s
+  pub stays : NoneGranted answers → stage' ≡ stage

@@ -1,19 +1,18 @@
 // Lists of calls on a reel, and the law that holds over every such list.
 #![tactic(auto)]
 
-ghost use Rattle.std.specs.Prelude.{◌≡◌, false, MatchResult};
+ghost use Rattle.std.specs.Prelude.{◌≡◌, false, drop, length, take};
 ghost use Rattle.calls.specs.Held.{fits};
-ghost use Rattle.calls.specs.Laws.{LawOverRuns};
+ghost use Rattle.calls.specs.Laws.{LawOverRuns, granted};
 ghost use Rattle.calls.specs.Runs.{call_of, calls_of, reply, step as stepped};
 ghost use Rattle.reel.specs.Memories.{held_in};
-ghost use Rattle.replay.specs.Stages.{Replayed, answer_to, close_turn, format_of, open_turn, reel_of, setting_at, spent_of, stage_in, state_of};
+ghost use Rattle.replay.specs.Stages.{NoneWrites, Replayed, answer_to, close_turn, format_of, open_turn, reel_of, setting_at, spent_of, state_of, writes};
 
 use calls::answers::{Answer, Call};
 use calls::faults::PictureFault;
 use pictures::Store;
 use reel::memory::Memory;
 use reel::reels::{Reel, Slip};
-use std::alloc::Global;
 use transform::Transform;
 
 // A reel rests, or has a picture open.
@@ -61,7 +60,7 @@ fn answer_to(given: Result<Answer, PictureFault>) -> Answer
     given.unwrap_or_else(Answer::Refused)
 }
 
-// Makes a call where it is in turn.
+// Makes a call where it is in turn. One that is refused or out of turn leaves the very stage, and only an accepted delivery or closing writes to the memory.
 pub fn step<S: Store, T: Transform>(
     stage: Stage,
     memory: &mut Memory<S>,
@@ -72,6 +71,8 @@ pub fn step<S: Store, T: Transform>(
     ensures answer { result.1 ≡ reply (setting_at stage (T.meaning transform.now) (held_in S.picture memory.old)) (state_of stage (held_in S.picture memory.old)) (call_of call.now) }
     ensures format { format_of result.0 ≡ format_of stage }
     ensures unspent { spent_of stage ≡ false → spent_of result.0 ≡ false }
+    ensures stays { granted result.1 ≡ false → result.0 ≡ stage }
+    ensures untouched { writes result.1 ≡ false → memory.new ≡ memory.old }
 {
     match (stage, call) {
         (
@@ -108,27 +109,35 @@ pub fn step<S: Store, T: Transform>(
     }
 }
 
-// Makes every call of a list, in order, and answers each. Room for the answers is asked for first: where there is none, stage and memory are as they came.
+// The calls for whose answers there is room.
+fn with_room<'a, 'b>(calls: &'a [Call<'b>], answers: &[Answer]) -> &'a [Call<'b>]
+    ensures { result.now ≡ take (length answers.now) calls.now }
+{
+    &calls[..calls.len().min(answers.len())]
+}
+
+// Makes the calls of a list, in order, as far as there is room for their answers, and lays the answers to the front of that room; what lies behind them stays.
+// No call with room is left out, whatever happens: nothing is asked for here that may be lacking.
 pub fn replay<S: Store, T: Transform>(
     stage: Stage,
     memory: &mut Memory<S>,
     transform: &T,
     calls: &[Call],
-    heap: Global,
-) -> Result<(Stage, Vec<Answer>), Stage>
-    ensures runs { MatchResult result (λ p. Replayed (T.meaning transform.now) stage (held_in S.picture memory.old) (calls_of calls.now) p.0 (held_in S.picture memory.new) p.1.items) (λ s. (s ≡ stage) × (memory.new ≡ memory.old)) }
-    ensures format { format_of (stage_in result) ≡ format_of stage }
+    answers: &mut [Answer],
+) -> Stage
+    ensures runs { Replayed (T.meaning transform.now) stage (held_in S.picture memory.old) (calls_of (take (length answers.old) calls.now)) result (held_in S.picture memory.new) (take (length calls.now) answers.new) }
+    ensures rest { drop (length calls.now) answers.new ≡ drop (length calls.now) answers.old }
+    ensures untouched { NoneWrites (take (length calls.now) answers.new) → memory.new ≡ memory.old }
+    ensures format { format_of result ≡ format_of stage }
     ensures size { fits (format_of stage) (held_in S.picture memory.new) ≡ fits (format_of stage) (held_in S.picture memory.old) }
     ensures law { LawOverRuns }
 {
-    let Ok(mut answers) = Vec::with_capacity(heap, calls.len()) else {
-        return Err(stage);
-    };
+    let made = with_room(calls, answers);
     let mut stage = stage;
-    for call in calls {
+    for (index, call) in made.iter().enumerate() {
         let (next, answer) = step(stage, memory, transform, call);
         stage = next;
-        answers.push_reserved(answer);
+        answers[index] = answer;
     }
-    Ok((stage, answers))
+    stage
 }

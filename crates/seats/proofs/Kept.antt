@@ -1,13 +1,15 @@
 -- Format, transform and sizes are kept through a call.
-use Rattle.std.proofs.Common.{◌≡◌, ℕ, true, List, ℤ, refl, sym, ap, ◌∙◌, subst}
-use Rattle.calls.specs.Held.{Held, fits}
+use Rattle.std.proofs.Common.{◌≡◌, ℕ, false, List, [], ◌∷◌, ℤ, All, get_or, length, take, refl, ap, ◌∙◌, subst, arith}
+use Rattle.std.proofs.lemmas.List.Elements.{All-cons, All-nil, All-same}
+use Rattle.calls.specs.Held.{Held}
 use Rattle.calls.specs.declared.answers.Answer.{Answer}
-use Rattle.calls.specs.Runs.{Calling, State, all_fit, reply, setting_of, step}
+use Rattle.calls.specs.Laws.{granted}
+use Rattle.calls.specs.Runs.{Calling, State, setting_of, step}
 use Rattle.calls.proofs.Sizes.{same_setting}
 use Rattle.replay.specs.declared.Stage.{Stage}
+use Rattle.replay.specs.Stages.{NoneWrites, Replayed, control_of, format_of, setting_at, state_of, writes}
 use Rattle.call_lines.specs.declared.line.TransformKind.{TransformKind}
 use Rattle.seats.specs.Seats.{Made, meaning_of}
-use Rattle.replay.specs.Stages.{control_of, format_of, setting_at, state_of}
 
 module _ (meaning : List ℤ → ℕ → ℕ → ℤ) (stage stage' : Stage) (held held' : Held) (c : Calling)
     (s : state_of stage' held' ≡ step (setting_at stage meaning held) (state_of stage held) c) (f : format_of stage' ≡ format_of stage) where
@@ -18,15 +20,26 @@ module _ (meaning : List ℤ → ℕ → ℕ → ℤ) (stage stage' : Stage) (he
       ∙ ap (λ (x : State). setting_of (format_of stage) meaning x.contents.held) s
       ∙ same_setting v (control_of stage) (state_of stage held).contents c refl
 
-  pub size_kept : fits (format_of stage) held ≡ true → fits (format_of stage') held' ≡ true
-  size_kept e = ap all_fit setting_kept ∙ e
+-- the one answer of a list of one
+one_answer : (answers : List Answer) (a d : Answer) → take 1 answers ≡ a ∷ [] → get_or answers 0 d ≡ a
+one_answer [] a d e = absurd (let z : ◌≡◌ {A = ℕ} 0 1 = ap length e in omega arith)
+one_answer (b ∷ more) a d e = ap (λ list. get_or list 0 d) e
 
--- what a step gave by the transform that was chosen
-pub made : (kind chosen : TransformKind) (stage stage' : Stage) (held held' : Held) (c : Calling) (a : Answer) → kind ≡ chosen
-    → state_of stage' held' ≡ step (setting_at stage (meaning_of chosen) held) (state_of stage held) c
-    → a ≡ reply (setting_at stage (meaning_of chosen) held) (state_of stage held) c
-    → format_of stage' ≡ format_of stage
-    → Made kind stage held c stage' held' a
-made kind chosen stage stage' held held' c a is s r f =
-    subst (λ k. Made k stage held c stage' held' a) (sym is)
-    (record { state = s; answer = r; setting = setting_kept (meaning_of chosen) stage stage' held held' c s f })
+one_of : (P : Answer → Type 0) (answers : List Answer) (a d : Answer) → take 1 answers ≡ a ∷ [] → P (get_or answers 0 d) → All P (take 1 answers)
+one_of P answers a d e p = All-same P _ _ e (All-cons P a [] (subst P (one_answer answers a d e) p) (All-nil P))
+
+-- what a list of one call gave
+pub made : (kind : TransformKind) (stage stage' : Stage) (held held' : Held) (c : Calling) (answers : List Answer) (d : Answer)
+    → Replayed (meaning_of kind) stage held (c ∷ []) stage' held' (take 1 answers) → format_of stage' ≡ format_of stage → Made kind stage held c stage' held' (get_or answers 0 d)
+made kind stage stage' held held' c answers d r f =
+    record {
+      state = r.state;
+      answer = one_answer answers _ d r.answered;
+      setting = setting_kept (meaning_of kind) stage stage' held held' c r.state f;
+      stays = λ none. r.stays (one_of (λ a. granted a ≡ false) answers _ d r.answered none);
+    }
+
+-- and nothing was written where its answer tells so
+pub unwritten : (kind : TransformKind) (stage stage' : Stage) (held held' : Held) (c : Calling) (answers : List Answer) (d : Answer)
+    → Replayed (meaning_of kind) stage held (c ∷ []) stage' held' (take 1 answers) → writes (get_or answers 0 d) ≡ false → NoneWrites (take 1 answers)
+unwritten kind stage stage' held held' c answers d r none = one_of (λ a. writes a ≡ false) answers _ d r.answered none

@@ -1,5 +1,5 @@
 -- A reel with the memory that the script chose for it.
-use Rattle.std.specs.Prelude.{◌≡◌, ℕ, Bool, List, None, ℤ, pos, replicate, vec_items}
+use Rattle.std.specs.Prelude.{◌≡◌, ℕ, Bool, false, List, None, ℤ, pos, replicate, vec_items}
 use Rattle.transform.specs.Inverse.{direct, two_pass}
 use Rattle.pictures.specs.declared.formats.Format.{Format}
 use Rattle.motion.specs.declared.vectors.Vector.{Vector}
@@ -9,7 +9,8 @@ use Rattle.stores.specs.Bytes.{bytes_seen}
 use Rattle.stores.specs.Tiles.{tiles_seen}
 use Rattle.calls.specs.Held.{Held, cells_of, fits}
 use Rattle.calls.specs.declared.answers.Answer.{Answer}
-use Rattle.calls.specs.Runs.{Calling, reply, run, step}
+use Rattle.calls.specs.Laws.{granted}
+use Rattle.calls.specs.Runs.{Calling, reply, step}
 use Rattle.reel.specs.declared.memory.Memory.{Memory}
 use Rattle.replay.specs.declared.Stage.{Stage}
 use Rattle.reel.specs.Memories.{held_in}
@@ -45,15 +46,13 @@ abbrev pub meaning_of : TransformKind → List ℤ → ℕ → ℕ → ℤ
 meaning_of TwoPass = two_pass
 meaning_of Direct = direct
 
--- a stage and what its memory holds are those after a run of calls
-abbrev pub Ran : TransformKind → Stage → Held → List Calling → Stage → Held → Type 0
-Ran kind stage held calls stage' held' = state_of stage' held' ≡ run (setting_at stage (meaning_of kind) held) (state_of stage held) calls
-
--- a stage, what its memory holds and an answer are those of one call; format, transform and sizes are as they were
+-- a stage, what its memory holds and an answer are those of one call; format, transform and sizes are as they were, and so is the very stage where the
+-- call is not accepted
 pub record Made (kind : TransformKind) (stage : Stage) (held : Held) (call : Calling) (stage' : Stage) (held' : Held) (a : Answer) : Type 0 where
   pub state : state_of stage' held' ≡ step (setting_at stage (meaning_of kind) held) (state_of stage held) call
   pub answer : a ≡ reply (setting_at stage (meaning_of kind) held) (state_of stage held) call
   pub setting : setting_at stage' (meaning_of kind) held' ≡ setting_at stage (meaning_of kind) held
+  pub stays : granted a ≡ false → stage' ≡ stage
 
 -- what new memory holds: zeros and absent marks
 abbrev pub blank_picture : Format → Picture

@@ -30,28 +30,9 @@ tell_answer c a h t = with_sums a h (answered (word_for c) a t)
 abbrev pub tell_call : Setting → State → Calling → Told → Told
 tell_call w R c t = tell_answer c (reply w R c) (step w R c).contents.held t
 
--- call after call
-abbrev pub tell_calls : Setting → State → List Calling → Told → Told
-tell_calls w R [] t = t
-tell_calls w R (c ∷ cs) t = tell_calls w (step w R c) cs (tell_call w R c t)
-
--- answers that were given before, over what is held in the end
-abbrev pub tell_answers : List Calling → List Answer → Held → Told → Told
-tell_answers [] answers h t = t
-tell_answers (c ∷ cs) [] h t = t
-tell_answers (c ∷ cs) (a ∷ more) h t = tell_answers cs more h (tell_answer c a h t)
-
 -- without a reel each call is out of turn
 abbrev pub miss_call : Calling → Told → Told
 miss_call c t = answered (word_for c) OutOfTurn t
-
-abbrev pub miss_line : Option Calling → Told → Told
-miss_line None t = t
-miss_line (Some c) t = miss_call c t
-
-abbrev pub miss_calls : List Calling → Told → Told
-miss_calls [] t = t
-miss_calls (c ∷ cs) t = miss_calls cs (miss_call c t)
 
 -- the first rows of ages, each a line
 abbrev pub tell_rows : ℕ → List ℕ → ℕ → Told → Told
@@ -79,16 +60,3 @@ tell_left (control n f (open_to kind rounding layout)) w R t =
 
 abbrev pub tell_leaving : Setting → State → Told → Told
 tell_leaving w R t = tell_left R.state w R t
-
--- no call but the last closes a picture
-abbrev pub not_closing : Calling → Bool
-not_closing (opening kind rounding layout) = true
-not_closing (delivering segment bytes) = true
-not_closing closing = false
-not_closing (asking_sample plane across down) = true
-not_closing (asking_age column row) = true
-
-abbrev pub ClosesLast : List Calling → Type 0
-ClosesLast [] = Unit {0}
-ClosesLast (c ∷ []) = Unit {0}
-ClosesLast (c ∷ d ∷ cs) = (not_closing c ≡ true) × ClosesLast (d ∷ cs)

@@ -23,12 +23,3 @@ abbrev pub call_in : Result (Option Meaning) Mistake → Option Calling
 call_in (Ok None) = None
 call_in (Ok (Some l)) = call_by l
 call_in (Err m) = None
-
-abbrev pub also_call : Option Calling → List Calling → List Calling
-also_call None calls = calls
-also_call (Some c) calls = c ∷ calls
-
--- the calls of lines, in their order
-abbrev pub calls_in : List (Result (Option Line) Mistake) → List Calling
-calls_in [] = []
-calls_in (l ∷ ls) = also_call (call_in (told l)) (calls_in ls)

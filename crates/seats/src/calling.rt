@@ -1,23 +1,22 @@
 // The calls of a reel in its seat.
-ghost use Rattle.std.specs.Prelude.{◌≡◌, true, length, IfOk, IsSome};
+ghost use Rattle.std.specs.Prelude.{◌≡◌, length, IfOk};
 ghost use Rattle.std.specs.Option.{option_map};
 ghost use Rattle.pictures.specs.Formats.{columns_of, rows_of};
-ghost use Rattle.calls.specs.Runs.{asking_age, call_of, calls_of, reply, run};
+ghost use Rattle.calls.specs.Runs.{asking_age, call_of, reply};
 ghost use Rattle.call_lines.specs.Lines.{told};
-ghost use Rattle.replay.specs.Stages.{format_of, setting_at, state_of};
 ghost use Rattle.replay.specs.declared.Stage.TheVariants.{Resting};
 ghost use Rattle.transcripts.specs.Tallies.{is_refused, one_more, one_more_if};
 ghost use Rattle.transcripts.specs.Told.{Tells};
 ghost use Rattle.seats.specs.Copies.{laid_over, plane_samples, plane_size};
-ghost use Rattle.seats.specs.Seats.{Ran, blank, held_by, meaning_of, seated, store_in};
+ghost use Rattle.seats.specs.Seats.{blank, held_by, store_in};
 ghost use Rattle.seats.specs.Steps.{Turned, setting_in, state_in};
-ghost use Rattle.seats.specs.Tellings.{ClosesLast, miss_calls, miss_line, tell_ages, tell_answer, tell_answers, tell_calls, tell_leaving, tell_rows, told_age};
-ghost use Rattle.seats.specs.Turns.{call_in, calls_in};
+ghost use Rattle.seats.specs.Tellings.{tell_ages, tell_answer, tell_call, tell_leaving, tell_rows, told_age};
+ghost use Rattle.seats.specs.Turns.{call_in};
 
 use crate::copies::copy_table;
 use crate::memories::StoredMemory;
 use crate::seat::{Choices, Seat};
-use call_lines::line::{Line, Said, TransformKind};
+use call_lines::line::{Line, Said};
 use calls::answers::{Answer, Call};
 use calls::faults::PictureFault;
 use reel::reels::Reel;
@@ -27,7 +26,7 @@ use transcripts::answers::{AgeRow, Answered, Word};
 use transcripts::transcript::Transcript;
 
 // The call that a line makes on a reel, if it makes one.
-fn call_of(line: &Said) -> Option<Call<'_>>
+pub fn call_of(line: &Said) -> Option<Call<'_>>
     ensures { option_map call_of result ≡ call_in (told line.now) }
 {
     let Ok(Some(line)) = line else {
@@ -65,80 +64,15 @@ fn call_of(line: &Said) -> Option<Call<'_>>
     }
 }
 
-// The calls of some lines.
-fn calls_of(heap: Global, lines: &[Said]) -> Result<Vec<Call<'_>>, AllocError>
-    ensures { IfOk result (λ v. calls_of v.items ≡ calls_in lines.now) }
-{
-    lines.iter().filter_map(call_of).collect(heap)
-}
-
-// Tells that the call of a line is out of turn, if it makes one.
-fn miss_line(line: &Said, transcript: &mut Transcript)
-    ensures { Tells (miss_line (call_in (told line.now))) transcript.old transcript.new }
-{
-    if let Some(call) = call_of(line) {
-        transcript.answer(Word::from(&call), Answer::OutOfTurn);
-    }
-}
-
-// The calls of some lines without a reel: each is out of turn.
-pub fn miss_calls(lines: &[Said], transcript: &mut Transcript)
-    ensures { Tells (miss_calls (calls_in lines.now)) transcript.old transcript.new }
-{
-    for line in lines {
-        miss_line(line, transcript);
-    }
-}
-
 // Tells the answer to a call, and the sums of the picture that it closed, which the memory still holds.
 fn tell_answer(call: &Call, answer: Answer, memory: &StoredMemory, transcript: &mut Transcript)
-    ensures { Tells (tell_answer (call_of call.now) answer (held_by memory.now)) transcript.old transcript.new }
+    ensures calls { transcript.new.calls ≡ one_more transcript.old.calls }
+    ensures refused { transcript.new.refused ≡ one_more_if (is_refused answer) transcript.old.refused }
+    ensures told { Tells (tell_answer (call_of call.now) answer (held_by memory.now)) transcript.old transcript.new }
 {
     transcript.answer(Word::from(call), answer);
     if let Answer::Closed { .. } = answer {
         transcript.add(memory.sums());
-    }
-}
-
-// Tells the answers to calls. A closing stands last, so that the memory still holds the picture that it finished.
-fn tell(calls: &[Call], answers: &[Answer], memory: &StoredMemory, transcript: &mut Transcript)
-    requires { length answers.now ≡ length calls.now }
-    ensures { Tells (tell_answers (calls_of calls.now) answers.now (held_by memory.now)) transcript.old transcript.new }
-{
-    // by an index, and no `zip`: the invariant then speaks of what is left of both lists
-    for (index, call) in calls.iter().enumerate() {
-        tell_answer(call, answers[index], memory, transcript);
-    }
-}
-
-// Makes the calls of some lines, and tells the answers: as call by call, where none but the last is a closing.
-fn replay_lines(
-    stage: Stage,
-    memory: &mut StoredMemory,
-    transform: TransformKind,
-    heap: Global,
-    lines: &[Said],
-    transcript: &mut Transcript,
-) -> Stage
-    requires { seated stage memory.old ≡ true }
-    ensures size { seated result memory.new ≡ true }
-    ensures format { format_of result ≡ format_of stage }
-    ensures runs { IsSome transcript.new.text → Ran transform stage (held_by memory.old) (calls_in lines.now) result (held_by memory.new) }
-    ensures told { ClosesLast (calls_in lines.now) → Tells (tell_calls (setting_at stage (meaning_of transform) (held_by memory.old)) (state_of stage (held_by memory.old)) (calls_in lines.now)) transcript.old transcript.new }
-{
-    let Ok(calls) = calls_of(heap, lines) else {
-        transcript.fall_short();
-        return stage;
-    };
-    match memory.replay(stage, transform, calls.as_slice(), heap) {
-        Ok((stage, answers)) => {
-            tell(calls.as_slice(), answers.as_slice(), memory, transcript);
-            stage
-        }
-        Err(stage) => {
-            transcript.fall_short();
-            stage
-        }
     }
 }
 
@@ -157,26 +91,6 @@ impl Seat {
         })
     }
 
-    // Makes the calls of some lines, and tells the answers: as call by call, where none but the last is a closing.
-    pub fn make_calls(self, heap: Global, lines: &[Said], transcript: &mut Transcript) -> Seat
-        ensures runs { IsSome transcript.new.text → state_in result ≡ run (setting_in self) (state_in self) (calls_in lines.now) }
-        ensures transform { result.transform ≡ self.transform }
-        ensures setting { setting_in result ≡ setting_in self }
-        ensures told { ClosesLast (calls_in lines.now) → Tells (tell_calls (setting_in self) (state_in self) (calls_in lines.now)) transcript.old transcript.new }
-    {
-        let Seat {
-            stage,
-            mut memory,
-            transform,
-        } = self;
-        let stage = replay_lines(stage, &mut memory, transform, heap, lines, transcript);
-        Seat {
-            stage,
-            memory,
-            transform,
-        }
-    }
-
     // Makes one call.
     pub fn step(self, call: &Call) -> (Seat, Answer)
         ensures { Turned self (call_of call.now) result.0 result.1 }
@@ -193,6 +107,18 @@ impl Seat {
             transform,
         };
         (seat, answer)
+    }
+
+    // Makes one call, and tells the answer.
+    pub fn make_call(self, call: &Call, transcript: &mut Transcript) -> Seat
+        ensures turned { Turned self (call_of call.now) result (reply (setting_in self) (state_in self) (call_of call.now)) }
+        ensures calls { transcript.new.calls ≡ one_more transcript.old.calls }
+        ensures refused { transcript.new.refused ≡ one_more_if (is_refused (reply (setting_in self) (state_in self) (call_of call.now))) transcript.old.refused }
+        ensures told { Tells (tell_call (setting_in self) (state_in self) (call_of call.now)) transcript.old transcript.new }
+    {
+        let (seat, answer) = self.step(call);
+        tell_answer(call, answer, &seat.memory, transcript);
+        seat
     }
 
     // Copies a plane of the finished picture, row by row from the top, to a buffer that has room for it, and tells how many samples it has.

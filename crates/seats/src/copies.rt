@@ -48,7 +48,7 @@ pub fn copy_table(cells: &[u8], buffer: &mut [u8]) -> usize
     ensures cells { buffer.new ≡ laid_over (length cells.now) cells.now buffer.old }
 {
     if cells.len() <= buffer.len() {
-        buffer[..cells.len()].copy_from_slice(cells);
+        tables::copy(cells, &mut buffer[..cells.len()]);
     }
     cells.len()
 }

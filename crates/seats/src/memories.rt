@@ -1,14 +1,14 @@
 // The memory of a reel, in the store that the script chose.
-ghost use Rattle.std.specs.Prelude.{◌≡◌, true, IfOk};
+ghost use Rattle.std.specs.Prelude.{◌≡◌, true, false, length, take, IfOk};
 ghost use Rattle.calls.specs.Effects.{picture_closed};
 ghost use Rattle.calls.specs.Held.{fits};
-ghost use Rattle.calls.specs.Runs.{call_of, calls_of, replies};
+ghost use Rattle.calls.specs.Runs.{call_of, calls_of};
 ghost use Rattle.reel.specs.Memories.{held_in};
-ghost use Rattle.replay.specs.Stages.{format_of, setting_at, stage_in, state_of};
+ghost use Rattle.replay.specs.Stages.{NoneWrites, Replayed, format_of, writes};
 ghost use Rattle.stores.specs.Bytes.{bytes_seen};
 ghost use Rattle.stores.specs.Tiles.{tiles_seen};
 ghost use Rattle.seats.specs.Copies.{laid_over, plane_samples, plane_size};
-ghost use Rattle.seats.specs.Seats.{Made, Ran, Tabled, blank, blank_picture, held_by, meaning_of, seated, store_in, sums_of};
+ghost use Rattle.seats.specs.Seats.{Made, Tabled, blank, blank_picture, held_by, meaning_of, seated, store_in, sums_of};
 
 use crate::copies::copy_plane;
 use call_lines::line::{StoreKind, TransformKind};
@@ -17,7 +17,7 @@ use motion::vectors::Vector;
 use pictures::{Format, Store};
 use reel::memory::Memory;
 use reel::reels::Slip;
-use replay::{Stage, replay, step};
+use replay::{Stage, replay};
 use std::alloc::{AllocError, Global};
 use stores::{ByteStore, TileStore};
 use transcripts::sums::{PictureSums, sum_plane, sum_table};
@@ -74,21 +74,21 @@ fn replay_by<S: Store>(
     memory: &mut Memory<S>,
     transform: TransformKind,
     calls: &[Call],
-    heap: Global,
-) -> Result<(Stage, Vec<Answer>), Stage>
+    answers: &mut [Answer],
+) -> Stage
     requires { fits (format_of stage) (held_in S.picture memory.old) ≡ true }
-    ensures size { fits (format_of (stage_in result)) (held_in S.picture memory.new) ≡ true }
-    ensures format { format_of (stage_in result) ≡ format_of stage }
-    ensures runs { IfOk result (λ p. Ran transform stage (held_in S.picture memory.old) (calls_of calls.now) p.0 (held_in S.picture memory.new)) }
-    ensures answered { IfOk result (λ p. p.1.items ≡ replies (setting_at stage (meaning_of transform) (held_in S.picture memory.old)) (state_of stage (held_in S.picture memory.old)) (calls_of calls.now)) }
+    ensures size { fits (format_of result) (held_in S.picture memory.new) ≡ true }
+    ensures format { format_of result ≡ format_of stage }
+    ensures runs { Replayed (meaning_of transform) stage (held_in S.picture memory.old) (calls_of (take (length answers.old) calls.now)) result (held_in S.picture memory.new) (take (length calls.now) answers.new) }
+    ensures untouched { NoneWrites (take (length calls.now) answers.new) → memory.new ≡ memory.old }
 {
     match transform {
-        TransformKind::TwoPass => replay(stage, memory, &TwoPass, calls, heap),
-        TransformKind::Direct => replay(stage, memory, &Direct, calls, heap),
+        TransformKind::TwoPass => replay(stage, memory, &TwoPass, calls, answers),
+        TransformKind::Direct => replay(stage, memory, &Direct, calls, answers),
     }
 }
 
-// Makes one call by the transform that was chosen: two arms, as for a list of calls.
+// Makes one call: a list of one, with room for its answer.
 fn step_by<S: Store>(
     stage: Stage,
     memory: &mut Memory<S>,
@@ -98,11 +98,11 @@ fn step_by<S: Store>(
     requires { fits (format_of stage) (held_in S.picture memory.old) ≡ true }
     ensures size { fits (format_of result.0) (held_in S.picture memory.new) ≡ true }
     ensures made { Made transform stage (held_in S.picture memory.old) (call_of call.now) result.0 (held_in S.picture memory.new) result.1 }
+    ensures untouched { writes result.1 ≡ false → memory.new ≡ memory.old }
 {
-    match transform {
-        TransformKind::TwoPass => step(stage, memory, &TwoPass, call),
-        TransformKind::Direct => step(stage, memory, &Direct, call),
-    }
+    let mut answers = [Answer::OutOfTurn];
+    let stage = replay_by(stage, memory, transform, &[*call], &mut answers);
+    (stage, answers[0])
 }
 
 // Closes an open picture in a memory that has its size, and gives the marks of its segments.
@@ -150,31 +150,12 @@ impl StoredMemory {
         }
     }
 
-    // Makes calls; where memory for the answers fails nothing is done.
-    pub fn replay(
-        &mut self,
-        stage: Stage,
-        transform: TransformKind,
-        calls: &[Call],
-        heap: Global,
-    ) -> Result<(Stage, Vec<Answer>), Stage>
-        requires { seated stage self.old ≡ true }
-        ensures size { seated (stage_in result) self.new ≡ true }
-        ensures format { format_of (stage_in result) ≡ format_of stage }
-        ensures runs { IfOk result (λ p. Ran transform stage (held_by self.old) (calls_of calls.now) p.0 (held_by self.new)) }
-        ensures answered { IfOk result (λ p. p.1.items ≡ replies (setting_at stage (meaning_of transform) (held_by self.old)) (state_of stage (held_by self.old)) (calls_of calls.now)) }
-    {
-        match self {
-            StoredMemory::Bytes(memory) => replay_by(stage, memory, transform, calls, heap),
-            StoredMemory::Tiles(memory) => replay_by(stage, memory, transform, calls, heap),
-        }
-    }
-
     // Makes one call.
     pub fn step(&mut self, stage: Stage, transform: TransformKind, call: &Call) -> (Stage, Answer)
         requires { seated stage self.old ≡ true }
         ensures size { seated result.0 self.new ≡ true }
         ensures made { Made transform stage (held_by self.old) (call_of call.now) result.0 (held_by self.new) result.1 }
+        ensures untouched { writes result.1 ≡ false → self.new ≡ self.old }
     {
         match self {
             StoredMemory::Bytes(memory) => step_by(stage, memory, transform, call),

@@ -3,7 +3,7 @@ use Rattle.calls.specs.declared.answers.Answer.TheVariants.{Delivered}
 use Rattle.calls.specs.Runs.{call_of, delivering}
 use Rattle.replay.specs.declared.Stage.TheVariants.{Open}
 use Rattle.reel.specs.Memories.{held_in}
-use Rattle.replay.proofs.Turns.{answer_by, turn_deliver, turn_from}
+use Rattle.replay.proofs.Turns.{answer_by, turn_deliver, turn_from, unwritten}
 use Rattle.replay.proofs.step.Goals as goal
 
 pub returns-in-Open-Deliver : goal.returns-in-Open-Deliver
@@ -17,4 +17,11 @@ returns-in-Open-Deliver g c =
     turn_from meaning c.args.stage (Open a.slip) held (call_of c.args.call.now) (delivering a.segment a.bytes.now) _ _ _
     a.is-0 (ap call_of a.is-1)
     (turn_deliver meaning held a.slip _ a.segment a.bytes.now _ _ c.answer_to.result _ refl d.slip d.answer e d.memory) in
-    record { state = t.state; answer = t.answer; format = t.format; unspent = t.unspent }
+    record {
+      state = t.state;
+      answer = t.answer;
+      format = t.format;
+      unspent = t.unspent;
+      stays = t.stays;
+      untouched = unwritten c.deliver-given.result.1 c.answer_to.result _ e d.untouched;
+    }

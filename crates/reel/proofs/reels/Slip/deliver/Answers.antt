@@ -64,6 +64,7 @@ returns g c =
       memory =
           rw e (c.rebuild_in.ensures
           ∙ ap (λ (x : Segment). segment_rebuilt (g.T.Transform.meaning c.args.transform.now) x slip.rounding (accepted slip.kind (count_of x) c.args.bytes.now) held) s);
+      untouched = tt;
       format = refl;
       size =
           ap (fits slip.reel.format) (c.rebuild_in.ensures
