@@ -63,10 +63,7 @@ impl Marks<'_> {
         requires down { down ≤ 2000000 }
         ensures { result ≡ mark_of self.entry.cells.now self.entry.columns across down }
     {
-        self.cells
-            .get(down * self.columns as usize + across)
-            .copied()
-            .flatten()
+        tables::read(self.cells, down * self.columns as usize + across).flatten()
     }
 }
 

@@ -10,7 +10,7 @@ use samples::{median, vector_component};
 pub fn vector_at(vectors: &[Vector], place: usize) -> Vector
     ensures { result ≡ vectors_at vectors.now place }
 {
-    vectors.get(place).copied().unwrap_or_default()
+    tables::read(vectors, place).unwrap_or_default()
 }
 
 // The median of three, a component at a time.
