@@ -1,5 +1,5 @@
 -- What an accepted delivery makes of its segment. Assumes nothing.
-use Rattle.std.specs.Prelude.{ℕ, ◌-◌, ◌*◌, List, [], ◌++◌, length, take, drop, ℤ, Ok, Err, Option, Result}
+use Rattle.std.specs.Prelude.{◌≡◌, ℕ, ◌-◌, ◌*◌, List, [], ◌++◌, length, take, drop, ℤ, Ok, Err, Option, Result}
 use Rattle.records.specs.declared.types.Macroblock.{Macroblock}
 use Rattle.records.specs.declared.types.PictureKind.{PictureKind}
 use Rattle.records.specs.Deliveries.{read}
@@ -16,7 +16,11 @@ width_of s = s.right - s.left
 abbrev pub count_of : Segment → ℕ
 count_of s = (s.bottom - s.top) * width_of s
 
--- a segment's first cell in a table of the whole picture
+-- a segment has all columns of a picture that has so many, so that its cells follow one another in a table of the picture
+abbrev pub Spans : Segment → ℕ → Type 0
+Spans s columns = (s.left ≡ 0) × (s.right ≡ columns)
+
+-- the first cell of such a segment in a table of the whole picture
 abbrev pub first_cell : Segment → ℕ
 first_cell s = s.top * width_of s
 

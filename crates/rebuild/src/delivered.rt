@@ -6,7 +6,7 @@ ghost use Rattle.records.specs.Again.{records_of};
 ghost use Rattle.records.specs.Deliveries.{read};
 ghost use Rattle.samples.specs.Prediction.{rounding_of};
 ghost use Rattle.rebuild.specs.Laws.{Independent};
-ghost use Rattle.rebuild.specs.Rebuilt.{accepted, count_of, first_cell, rebuilt, set_from, width_of};
+ghost use Rattle.rebuild.specs.Rebuilt.{Spans, accepted, count_of, first_cell, rebuilt, set_from, width_of};
 
 use crate::rebuilder::Rebuilder;
 use deblocking::deblock_segment;
@@ -46,8 +46,7 @@ fn set_cells_from(
 }
 
 impl<S: Store, T: Transform> Rebuilder<'_, '_, S, T> {
-    // Rebuilds the window's segment from an accepted delivery: sets its samples in the working store and its cells in the tables, and no others. The
-    // segment spans the picture's columns.
+    // Rebuilds the window's segment from an accepted delivery: sets its samples in the working store and its cells in the tables, and no others.
     // (The tables stay four parameters, for the reason beside `set_cells` of `motion`. Kind and bytes, and no `Delivery`: they are read twice, for the cells and for the
     // samples, and a `Delivery` is used up by its reading and holds what no derive copies.)
     pub fn rebuild_segment(
@@ -60,6 +59,7 @@ impl<S: Store, T: Transform> Rebuilder<'_, '_, S, T> {
         vectors: &mut [Vector],
         marks: &mut [Option<u8>],
     )
+        requires spans { Spans self.now.window.segment (S.picture working.old).wide }
         requires accepted { is_ok (read kind (count_of self.now.window.segment) bytes.now) ≡ true }
         requires room { let s = self.now.window.segment in Room (s.bottom * width_of s) finished_ages.now ages.old vectors.old marks.old }
         ensures samples { let w = self.now.window in S.picture working.new ≡ rebuilt (T.meaning self.now.transform.now) w.segment (rounding_of w.rounding) (S.picture w.finished.now).sample (accepted kind (count_of w.segment) bytes.now) marks.new (S.picture working.old) }
