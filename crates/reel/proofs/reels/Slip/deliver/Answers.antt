@@ -28,6 +28,7 @@ rebuild_in-requires g c =
       few_columns = within.1.0;
       some_rows = some.1;
       few_rows = omega (arith, within.1.1.1);
+      spans = rw is (refl, sym size.working_wide);
       accepted = rw is told.readable;
       room = rw is (record {
         of_finished = room slip.reel.format _ (length was.finished_ages.items) (laws.in_picture c.args.segment) size.finished_ages;
