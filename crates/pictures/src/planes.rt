@@ -7,6 +7,8 @@ use crate::layouts::Segment;
 // contracts and on no layout of memory.
 // A plane is a coordinate like across and down: a store answers for every number, and says of 3 and more that they lie outside. The three are passed
 // apart, since every caller goes over one of them while the others stay.
+// A store may have more memory than its picture needs, as where a caller brings a longer vector. No contract here speaks of cells beyond the picture: no answer
+// depends on them, and a call that writes may leave or alter them. 'No other' below is no other sample of the picture.
 pub trait Store {
     // what the store means
     ghost picture: { Self → Picture };
