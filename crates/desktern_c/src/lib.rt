@@ -8,7 +8,7 @@ ghost use Rattle.calls.specs.Runs.{asking_age, asking_sample, closing, deliverin
 ghost use Rattle.pictures.specs.Formats.{numbered};
 ghost use Rattle.handles.specs.Handles.{Answered, ages_at, finished_at, handle_owned};
 ghost use Rattle.seats.specs.Copies.{laid_over, plane_samples, plane_size};
-ghost use Rattle.handles.specs.Begun.{Begun};
+ghost use Rattle.handles.specs.Begun.{Begun, choices_of};
 ghost use Rattle.handles.specs.declared.handle.ReelHandle.{ReelHandle as Handle};
 
 use calls::answers::Call;
@@ -20,7 +20,7 @@ use handles::loose::Loose;
 use handles::slot::ReelSlot;
 use std::alloc::Global;
 
-// Begins a reel, and puts its pointer where `reel` points. Refused, or without memory, it leaves that place as it was. (That nothing is held there before is
+// Begins a reel, and puts its pointer where `reel` points. Where that is not accepted it leaves the place as it was. (That nothing is held there before is
 // asked so that nothing is lost: of a place that C did not fill it holds.)
 #[unsafe(no_mangle)]
 pub extern "C" fn desktern_new(
@@ -32,7 +32,7 @@ pub extern "C" fn desktern_new(
     answer: &mut AnswerNumbers,
 )
     requires { reel.old.held ≡ None }
-    ensures begun { Begun (numbered format) store transform reel.new.held answer.new }
+    ensures begun { Begun (numbered format) (choices_of store transform) reel.new.held answer.new }
     ensures left { reel.new.held ≡ None → reel.new ≡ reel.old }
 {
     match begin(heap, format, store, transform) {

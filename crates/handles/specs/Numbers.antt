@@ -15,7 +15,7 @@ layer_number layer.Macroblock = 2
 layer_number layer.Block = 3
 layer_number layer.Segment = 4
 
--- the four outcomes: 0 accepted, 1 refused, 2 out of turn, 3 no memory
+-- the five outcomes: 0 accepted, 1 refused, 2 out of turn, 3 no memory, 4 unknown choice
 abbrev pub accepted : ℕ → ℕ → AnswerNumbers
 accepted first second =
     record { outcome = 0; number = 0; layer = 0; block = 0; word = 0; macroblock = 0; first = first; second = second }
@@ -38,6 +38,9 @@ out_of_turn = record { outcome = 2; number = 0; layer = 0; block = 0; word = 0; 
 
 abbrev pub no_memory : AnswerNumbers
 no_memory = record { outcome = 3; number = 0; layer = 0; block = 0; word = 0; macroblock = 0; first = 0; second = 0 }
+
+abbrev pub unknown_choice : AnswerNumbers
+unknown_choice = record { outcome = 4; number = 0; layer = 0; block = 0; word = 0; macroblock = 0; first = 0; second = 0 }
 
 abbrev pub numbers_of : Answer → AnswerNumbers
 numbers_of (answer.Opened segments) = accepted segments 0

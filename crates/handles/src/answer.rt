@@ -1,6 +1,6 @@
 // Answers in numbers.
 ghost use Rattle.std.specs.Prelude.{◌≡◌};
-ghost use Rattle.handles.specs.Numbers.{accepted, layer_number, no_memory, numbers_of, out_of_turn, refused};
+ghost use Rattle.handles.specs.Numbers.{accepted, layer_number, no_memory, numbers_of, out_of_turn, refused, unknown_choice};
 
 use calls::answers::Answer;
 use records::faults::{Layer, Refusal};
@@ -83,6 +83,15 @@ impl AnswerNumbers {
     {
         AnswerNumbers {
             outcome: 3,
+            ..PLAIN
+        }
+    }
+
+    pub fn unknown_choice() -> AnswerNumbers
+        ensures { result ≡ unknown_choice }
+    {
+        AnswerNumbers {
+            outcome: 4,
             ..PLAIN
         }
     }

@@ -4,7 +4,7 @@ ghost use Rattle.pictures.specs.Formats.{numbered};
 ghost use Rattle.replay.specs.declared.Stage.TheVariants.{Resting};
 ghost use Rattle.seats.specs.Seats.{blank, held_by, store_in};
 ghost use Rattle.replay.specs.Stages.{format_of};
-ghost use Rattle.handles.specs.Begun.{Begun, answer_in, handle_in, store_of, transform_of};
+ghost use Rattle.handles.specs.Begun.{Begun, answer_in, choices_of, handle_in, store_of, transform_of};
 
 use crate::answer::AnswerNumbers;
 use crate::handle::ReelHandle;
@@ -16,24 +16,36 @@ use reel::reels::Reel;
 use seats::seat::{Choices, Seat};
 use std::alloc::Global;
 
-// The store of a number: 1 is tiles, and any other number is bytes.
-fn store_of(number: u32) -> StoreKind
+// The store that a number names, if it names one.
+fn store_of(number: u32) -> Option<StoreKind>
     ensures { result ≡ store_of number }
 {
     match number {
-        1 => StoreKind::Tiles,
-        _ => StoreKind::Bytes,
+        0 => Some(StoreKind::Bytes),
+        1 => Some(StoreKind::Tiles),
+        _ => None,
     }
 }
 
-// The transform of a number: 1 is direct, and any other number is two-pass.
-fn transform_of(number: u32) -> TransformKind
+// The transform that a number names, if it names one.
+fn transform_of(number: u32) -> Option<TransformKind>
     ensures { result ≡ transform_of number }
 {
     match number {
-        1 => TransformKind::Direct,
-        _ => TransformKind::TwoPass,
+        0 => Some(TransformKind::TwoPass),
+        1 => Some(TransformKind::Direct),
+        _ => None,
     }
+}
+
+// The choices of two numbers. (A number that is not known names none, rather than a default: what a newer program means by it would else be decoded as
+// something else.)
+fn choices_of(store: u32, transform: u32) -> Option<Choices>
+    ensures { result ≡ choices_of store transform }
+{
+    let store = store_of(store)?;
+    let transform = transform_of(transform)?;
+    Some(Choices { store, transform })
 }
 
 // Keeps a seat in a block of its own, if there is memory for that.
@@ -74,15 +86,14 @@ pub fn begin(
     store: u32,
     transform: u32,
 ) -> Result<Loose<ReelHandle, Global>, AnswerNumbers>
-    ensures { Begun (numbered format) store transform (handle_in result) (answer_in result) }
+    ensures { Begun (numbered format) (choices_of store transform) (handle_in result) (answer_in result) }
 {
     let reel = match Reel::new(format) {
         Ok(reel) => reel,
         Err(fault) => return Err(AnswerNumbers::from(Answer::Refused(fault))),
     };
-    let choices = Choices {
-        store: store_of(store),
-        transform: transform_of(transform),
+    let Some(choices) = choices_of(store, transform) else {
+        return Err(AnswerNumbers::unknown_choice());
     };
     seat(heap, reel, choices).ok_or(AnswerNumbers::no_memory())
 }
