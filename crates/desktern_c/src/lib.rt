@@ -2,11 +2,12 @@
 // giving it back frees.
 #![tactic(auto)]
 
-ghost use Rattle.std.specs.Prelude.{◌≡◌, None, length};
+ghost use Rattle.std.specs.Prelude.{◌≡◌, None, Option, length};
 ghost use Rattle.std.specs.Borrow.{sem};
+ghost use denote.RawPtr.{null_ptr};
 ghost use Rattle.calls.specs.Runs.{asking_age, asking_sample, closing, delivering, opening};
 ghost use Rattle.pictures.specs.Formats.{numbered};
-ghost use Rattle.handles.specs.Handles.{Answered, ages_at, finished_at, handle_owned};
+ghost use Rattle.handles.specs.Handles.{Answered, ages_at, finished_at, slot_owns};
 ghost use Rattle.seats.specs.Copies.{laid_over, plane_samples, plane_size};
 ghost use Rattle.handles.specs.Begun.{Begun, choices_of};
 ghost use Rattle.handles.specs.declared.handle.ReelHandle.{ReelHandle as Handle};
@@ -46,12 +47,17 @@ pub extern "C" fn desktern_new(
     }
 }
 
-// Gives a reel's memory back. A picture that is open is closed first, since a slip has to be handed in.
+// Gives a reel's memory back, and does nothing where nothing is held: the pointer is null then. A picture that is open is closed first, since a slip has to be
+// handed in.
 #[unsafe(no_mangle)]
 pub unsafe extern "C" fn desktern_free(heap: Global, reel: *mut ReelHandle)
-    ghost held: { Handle }
-    requires* { sem 𝓛 (handle_owned reel held) }
+    ghost held: { Option Handle }
+    requires null { held ≡ None → reel ≡ null_ptr }
+    requires* owned { sem 𝓛 (slot_owns reel held) }
 {
+    if reel.is_null() {
+        return;
+    }
     release(Loose {
         at: reel,
         alloc: heap,
