@@ -1,5 +1,6 @@
-/* Plays a script of calls (docs/SCRIPT.md) through the C library and prints the answers as `desktern` does. Lines `records` touch no reel, and the library has no
- * call for them: they are read and not answered, and do not count. */
+/* Plays a script of calls (docs/SCRIPT.md) through the C library and prints the answers as
+ * `desktern` does. Lines `records` touch no reel, and the library has no call for them: they are
+ * read and not answered, and do not count. */
 #define _POSIX_C_SOURCE 200809L
 #include "desktern.h"
 
@@ -15,7 +16,8 @@ static const char BAD_BYTES[] = "bytes are pairs of hexadecimal digits, or - for
 static const char BAD_STORE[] = "the store is bytes or tiles";
 static const char BAD_TRANSFORM[] = "the transform is two-pass or direct";
 static const char BAD_KIND[] = "the kind is 0 (INTRA) or 1 (INTER)";
-static const char BAD_MACROBLOCKS[] = "the number of macroblocks is a decimal number below 4294967296";
+static const char BAD_MACROBLOCKS[] =
+    "the number of macroblocks is a decimal number below 4294967296";
 static const char TOO_MANY[] = "too many fields";
 
 /* A field of a line. */
@@ -47,10 +49,10 @@ static void stop(const char *why)
     exit(1);
 }
 
-/* Room for so many bytes, and at least one: a delivery of no bytes wants a pointer too. */
+/* Room for so many bytes, one or more. */
 static uint8_t *room(size_t count)
 {
-    uint8_t *bytes = malloc(count ? count : 1);
+    uint8_t *bytes = malloc(count);
     if (!bytes)
         stop("memory does not suffice");
     return bytes;
@@ -104,24 +106,26 @@ static int digit(char c)
     return -1;
 }
 
-/* Pairs of hexadecimal digits, or `-` for no bytes. The caller frees the bytes. */
-static uint8_t *read_bytes(field f, size_t *count)
+/* Pairs of hexadecimal digits, or `-` for no bytes, which lie nowhere: their pointer is null. The
+ * caller frees the bytes. */
+static bool read_bytes(field f, uint8_t **bytes, size_t *count)
 {
+    *bytes = NULL;
     *count = 0;
     if (is_word(f, "-"))
-        return room(0);
+        return true;
     if (f.length == 0 || f.length % 2 != 0)
-        return NULL;
-    uint8_t *bytes = room(f.length / 2);
+        return false;
+    *bytes = room(f.length / 2);
     for (size_t i = 0; i < f.length; i += 2) {
         int high = digit(f.text[i]), low = digit(f.text[i + 1]);
         if (high < 0 || low < 0) {
-            free(bytes);
-            return NULL;
+            free(*bytes);
+            return false;
         }
-        bytes[(*count)++] = (uint8_t)(high * 16 + low);
+        (*bytes)[(*count)++] = (uint8_t)(high * 16 + low);
     }
-    return bytes;
+    return true;
 }
 
 /* So many numbers and no field more; else what is wrong. */
@@ -148,9 +152,12 @@ enum { MOST_SAMPLES = 352 * 288 };
 static void print_picture(player *p)
 {
     printf("picture");
-    for (uint32_t plane = 0; plane < 3; plane++)
-        printf(" %08x", sum_of(p->samples, desktern_plane(p->reel, plane, p->samples, MOST_SAMPLES)));
-    printf(" ages %08x\n", sum_of(p->samples, desktern_ages(p->reel, p->samples, MOST_SAMPLES)));
+    for (uint32_t plane = 0; plane < 3; plane++) {
+        size_t size = desktern_plane(p->reel, plane, p->samples, MOST_SAMPLES);
+        printf(" %08x", sum_of(p->samples, size));
+    }
+    size_t size = desktern_ages(p->reel, p->samples, MOST_SAMPLES);
+    printf(" ages %08x\n", sum_of(p->samples, size));
 }
 
 /* A line for an answer. What was accepted prints as many of its two numbers as the call has. */
@@ -160,8 +167,9 @@ static void print_answer(const char *call, const desktern_answer *answer, int nu
     if (answer->outcome == DESKTERN_OUT_OF_TURN) {
         printf("%s out-of-turn\n", call);
     } else if (answer->outcome == DESKTERN_REFUSED) {
-        printf("%s no %u %s %llu %llu %u\n", call, answer->number, LAYERS[answer->layer], (unsigned long long)answer->word,
-               (unsigned long long)answer->macroblock, answer->block);
+        printf("%s no %u %s %llu %llu %u\n", call, answer->number, LAYERS[answer->layer],
+               (unsigned long long)answer->word, (unsigned long long)answer->macroblock,
+               answer->block);
     } else {
         printf("%s ok", call);
         if (numbers > 0)
@@ -204,6 +212,8 @@ static const char *play_new(player *p, fields *rest)
     desktern_new(format, p->store, p->transform, &reel, &answer);
     if (answer.outcome == DESKTERN_NO_MEMORY)
         stop("memory does not suffice");
+    if (answer.outcome == DESKTERN_UNKNOWN_CHOICE)
+        stop("the library has no such store or transform");
     if (answer.outcome == DESKTERN_ACCEPTED) {
         leave(p);
         p->reel = reel;
@@ -232,11 +242,11 @@ static const char *play_open(player *p, fields *rest)
 static const char *play_deliver(player *p, fields *rest)
 {
     uint32_t segment;
+    uint8_t *bytes;
     size_t count;
     if (!read_number(next_field(rest), &segment))
         return BAD_NUMBER;
-    uint8_t *bytes = read_bytes(next_field(rest), &count);
-    if (!bytes)
+    if (!read_bytes(next_field(rest), &bytes, &count))
         return BAD_BYTES;
     if (next_field(rest).length) {
         free(bytes);
@@ -308,7 +318,8 @@ static const char *play_ages(player *p, fields *rest)
 }
 
 /* One of two words and no field more. */
-static const char *read_choice(fields *rest, const char *zero, const char *one, const char *neither, uint32_t *choice)
+static const char *read_choice(fields *rest, const char *zero, const char *one,
+                               const char *neither, uint32_t *choice)
 {
     field f = next_field(rest);
     if (!is_word(f, zero) && !is_word(f, one))
@@ -323,13 +334,13 @@ static const char *skip_records(fields *rest)
 {
     field kind = next_field(rest);
     uint32_t macroblocks;
+    uint8_t *bytes;
     size_t count;
     if (!is_word(kind, "0") && !is_word(kind, "1"))
         return BAD_KIND;
     if (!read_number(next_field(rest), &macroblocks))
         return BAD_MACROBLOCKS;
-    uint8_t *bytes = read_bytes(next_field(rest), &count);
-    if (!bytes)
+    if (!read_bytes(next_field(rest), &bytes, &count))
         return BAD_BYTES;
     free(bytes);
     return next_field(rest).length ? TOO_MANY : NULL;
