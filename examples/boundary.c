@@ -56,7 +56,7 @@ static void strike(void *block)
 static void *list(void *block)
 {
     if (!block || out == MOST_BLOCKS) {
-        puts("boundary: too little memory for the checks");
+        puts(block ? "boundary: more blocks are out than it counts" : "boundary: no memory");
         exit(1);
     }
     blocks[out++] = block;
