@@ -50,7 +50,7 @@ static void strike(void *block)
             return;
         }
     }
-    CHECK(!"the block is out");
+    check(0, "the block is out", __LINE__);
 }
 
 static void *list(void *block)
