@@ -1,8 +1,10 @@
+use calls::answers::{Answer, Call};
 use calls::faults::PictureFault;
 use motion::vectors::Vector;
 use pictures::{Format, Store};
 use reel::memory::Memory;
 use reel::reels::Reel;
+use replay::{Stage, replay};
 use std::alloc::Global;
 use std::test::Fail;
 use stores::ByteStore;
@@ -205,5 +207,64 @@ fn picture_limit(rt: HostRuntime) -> Result<(), Fail> {
     let (_, number) = pass_picture(reel, &mut memory);
     assert_eq!(rt; accepted, 60_000);
     assert_eq!(rt; number, Some(3));
+    Ok(())
+}
+
+// Makes a list of calls on a reel, with room for some answers. A picture that is left open is closed then. (Over a memory that has not the reel's size none
+// is made, since its slip could not be handed in.)
+fn replay_in(
+    reel: Reel,
+    memory: &mut Memory<ByteStore>,
+    calls: &[Call],
+    room: &mut [Answer],
+) -> bool {
+    if !memory.fits(reel.format()) {
+        return false;
+    }
+    match replay(Stage::Resting(reel), memory, &TwoPass, calls, room) {
+        Stage::Resting(_) => true,
+        Stage::Open(slip) => match slip.close(memory) {
+            Ok(_) => true,
+            Err(_) => unreachable(),
+        },
+    }
+}
+
+// The calls of a list are made as far as there is room for their answers, and room behind them stays as it was.
+#[test]
+fn room_for_answers(rt: HostRuntime) -> Result<(), Fail> {
+    let heap = rt.alloc();
+    let calls = [
+        Call::Open {
+            kind: 0,
+            rounding: 0,
+            layout: 1,
+        },
+        Call::Open {
+            kind: 0,
+            rounding: 0,
+            layout: 1,
+        },
+        Call::Close,
+        Call::Age { column: 0, row: 0 },
+    ];
+    let mut memory = memory_but(heap, None)?;
+    let mut few = [Answer::Age(7); 2];
+    assert!(rt; replay_in(new_reel()?, &mut memory, &calls, &mut few));
+    assert!(rt; matches!(few, [Answer::Opened { segments: 1 }, Answer::OutOfTurn]));
+    let mut many = [Answer::Age(7); 5];
+    assert!(rt; replay_in(new_reel()?, &mut memory, &calls, &mut many));
+    assert!(rt;
+        matches!(
+            many,
+            [
+                Answer::Opened { segments: 1 },
+                Answer::OutOfTurn,
+                Answer::Closed { marks: 0 },
+                Answer::Age(255),
+                Answer::Age(7),
+            ]
+        )
+    );
     Ok(())
 }
