@@ -25,7 +25,8 @@ fn mark_of(macroblock: &Macroblock) -> Option<u8>
 // Sets the cells of a delivery's macroblocks, from the front of the parts of the tables that are handed on, and no others. The finished ages are
 // those of the same macroblocks. (The four tables stay apart: what a part of a table holds is lost to the proof once its slice lay in a struct that
 // was lent, and only its length is known. They are written by index: an `iter_mut` over three tables at once would lose their cells to the proof, and the
-// vectors written so far are read for the next one.)
+// vectors written so far are read for the next one. The finished age is read by index too: that there is one is a condition, and `tables::read` would test it
+// again.)
 pub fn set_cells(
     columns: usize,
     delivery: Delivery,
