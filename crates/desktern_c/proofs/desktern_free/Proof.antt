@@ -13,7 +13,7 @@ use types.Kit.{Item, Goal, Seq, Sq, ‵, raw, ◌⊛◌, some, given, later, pro
 use types.Run.{of_opd, bin, lit, unit_lit, no_more, and_then, first, branches, skips, exec, returns, returns_within, enter}
 use types.ByLocal.{alloc_all, pass_all, free_all, look_at, get, sets, lands_as, env}
 use types.Part.{agg}
-use contract.Monad.{fact, fact_use}
+use contract.Monad.{fact_use}
 use contract.Running.{tables}
 use denote.Builtin.{RawPtr, unit}
 use denote.Exit.{yes}
@@ -41,7 +41,7 @@ use Rattle.handles.specs.contracts.handle.ReelHandle as handle
 use Rattle.handles.proofs.Values.{heap_al, both, loose_good, loose_in}
 use Rattle.handles.specs.contracts.calling.release as callee
 use Rattle.handles.proofs.calling.release.Met.{met}
-use Rattle.desktern_c.specs.contracts.desktern_free.{ended, clauses}
+use Rattle.desktern_c.specs.contracts.desktern_free.{ended, clauses, requires-null}
 use Rattle.desktern_c.specs.contracts.desktern_free.Key.{name as #self}
 use Rattle.desktern_c.proofs.desktern_free.Statement.{statement}
 use Rattle.desktern_c.proofs.desktern_free.Code as code
@@ -73,7 +73,7 @@ desktern_free_spec 𝓤 𝓛 𝓜 𝓡 wired =
     let out : Sq 𝓛 (toks ∷ []) (prop (Post vunit)) =
     nothing ! $ feq_i ! (List Val) (vunit ∷ []) (vunit ∷ []) refl $ nothing ! $ nothing ! $ fjoin ! $ nothing ! $ fjoin ! $ move ! (3 ∷ []) $
     by ! (leaves 𝓛 En hs c z vunit tt (tt, (tt, tt)) (tt, (tt, tt))) in
-    qed 𝓛 ((toks ⊛ ‵ (owns (types_at En.signature.params z.0.0) z.0.3 z.0.4)) ∷ (raw (fact 𝓤 (held ≡ None → p ≡ null_ptr)) ⊛ ‵ (slot_owns p held)) ∷ []) ∵ split ! $ move ! (1 ∷ []) $ fsplit ! $
+    qed 𝓛 ((toks ⊛ ‵ (owns (types_at En.signature.params z.0.0) z.0.3 z.0.4)) ∷ (raw (requires-null 𝓛 z.0.0 𝓜.mem 𝓡.returns a p held) ⊛ ‵ (slot_owns p held)) ∷ []) ∵ split ! $ move ! (1 ∷ []) $ fsplit ! $
     handle_tells heap_al ! a us (λ h eh fits. move ! (1 ∷ []) $ fsplit ! $ feq_l ! (λ ev. drop ! $ move ! (2 ∷ []) $ split ! $ heard ! _ (λ null.
     let runs : (w : Val) → vs ≡ w ∷ [] → ent 𝓤 (Run (h ∷ w ∷ [])) (Run (us ++ (vs ++ []))) = λ w is. subst (λ (ts : List Val). ent 𝓤 (Run (h ∷ w ∷ [])) (Run ts)) (sym (λ i. eh i ++ (is i ++ []))) (id⊢ 𝓤 (Run (h ∷ w ∷ []))) in
     given_back ! p held null
