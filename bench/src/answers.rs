@@ -1,10 +1,14 @@
 //! What a call is answered, and the calls themselves, so that two decoders can be put the same questions.
 
+use crate::pictures::Store;
+use crate::transform::Transform;
+
 /// Outcomes of a call.
 pub const ACCEPTED: u32 = 0;
 pub const REFUSED: u32 = 1;
 pub const OUT_OF_TURN: u32 = 2;
 pub const NO_MEMORY: u32 = 3;
+pub const UNKNOWN_CHOICE: u32 = 4;
 
 /// Block 6 stands for "no block is due".
 pub const NO_BLOCK: u32 = 6;
@@ -65,6 +69,11 @@ impl Answer {
         Answer { outcome: OUT_OF_TURN, ..Answer::default() }
     }
 
+    /// Asked for a new reel by a number that names no store or no transform.
+    pub fn unknown_choice() -> Self {
+        Answer { outcome: UNKNOWN_CHOICE, ..Answer::default() }
+    }
+
     pub fn is_accepted(&self) -> bool {
         self.outcome == ACCEPTED
     }
@@ -93,10 +102,33 @@ impl From<Result<u64, Refusal>> for Answer {
     }
 }
 
+/// The numbers by which a new reel is asked for. Each may name nothing.
+#[derive(Clone, Copy, Debug, PartialEq, Eq)]
+pub struct Beginning {
+    pub format: u32,
+    pub store: u32,
+    pub transform: u32,
+}
+
+impl Beginning {
+    pub fn of(format: u32, store: Store, transform: Transform) -> Self {
+        Beginning { format, store: store as u32, transform: transform as u32 }
+    }
+}
+
 /// The calls of a reel.
 pub trait Calls {
+    /// Asks for a new reel in the place of this one, by numbers of which one at least names nothing: there is none, and this one stays.
+    fn ask_for_new(&mut self, beginning: Beginning) -> Answer;
+
     fn open(&mut self, kind: u32, rounding: u32, layout: u32) -> Answer;
     fn deliver(&mut self, segment: u32, bytes: &[u8]) -> Answer;
+
+    /// Delivers no bytes, by a null pointer where bytes go by pointers.
+    fn deliver_null(&mut self, segment: u32) -> Answer {
+        self.deliver(segment, &[])
+    }
+
     fn close(&mut self) -> Answer;
     fn sample(&mut self, plane: u32, across: u32, down: u32) -> Answer;
     fn age(&mut self, column: u32, row: u32) -> Answer;

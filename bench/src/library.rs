@@ -1,8 +1,6 @@
 //! The proved decoder, by the calls of its C header.
 
-use crate::answers::{Answer, Calls, ACCEPTED};
-use crate::script::Store;
-use crate::transform::Transform;
+use crate::answers::{Answer, Beginning, Calls, ACCEPTED};
 use std::ptr::{self, NonNull};
 
 mod c {
@@ -33,28 +31,49 @@ pub struct LibraryReel {
 }
 
 impl LibraryReel {
-    pub fn new(format: u32, store: Store, transform: Transform) -> Result<Self, Answer> {
-        let store = match store {
-            Store::Bytes => 0,
-            Store::Tiles => 1,
-        };
-        let transform = match transform {
-            Transform::TwoPass => 0,
-            Transform::Direct => 1,
-        };
-        let mut reel = ptr::null_mut();
-        // SAFETY: both pointers are to variables that outlive the call.
-        let answer = answered(|answer| unsafe { c::desktern_new(format, store, transform, &mut reel, answer) });
-        match NonNull::new(reel) {
-            Some(reel) if answer.outcome == ACCEPTED => Ok(LibraryReel { reel }),
-            None if answer.outcome != ACCEPTED => Err(answer),
-            _ => panic!("the library gives a reel just when it accepts: {answer:?}"),
+    pub fn new(beginning: Beginning) -> Result<Self, Answer> {
+        // Null would not show whether it was written.
+        let before = NonNull::dangling();
+        let (answer, after) = begin(beginning, before);
+        if answer.outcome != ACCEPTED {
+            assert_eq!(after, before.as_ptr(), "{beginning:?} is answered {answer:?}, and the place is not as it was");
+            return Err(answer);
         }
+        assert_eq!(answer, Answer::accepted(0, 0), "{beginning:?}");
+        let reel = NonNull::new(after).filter(|&reel| reel != before);
+        Ok(LibraryReel { reel: reel.unwrap_or_else(|| panic!("{beginning:?} is accepted, and gives no reel")) })
+    }
+
+    /// Gives back a null pointer, for which nothing is to be done.
+    pub fn free_null() {
+        // SAFETY: a null pointer may be given back.
+        unsafe { c::desktern_free(ptr::null_mut()) }
+    }
+
+    /// The samples of a plane, asked for by a null pointer.
+    pub fn plane_size(&mut self, plane: u32) -> usize {
+        // SAFETY: as for all calls below; a buffer of no bytes may be null.
+        unsafe { c::desktern_plane(self.reel.as_ptr(), plane, ptr::null_mut(), 0) }
+    }
+
+    /// The number of ages, asked for by a null pointer.
+    pub fn ages_size(&mut self) -> usize {
+        // SAFETY: as above.
+        unsafe { c::desktern_ages(self.reel.as_ptr(), ptr::null_mut(), 0) }
     }
 
     fn call(&mut self, call: impl FnOnce(*mut c::Reel, *mut Answer)) -> Answer {
         answered(|answer| call(self.reel.as_ptr(), answer))
     }
+}
+
+/// Asks for a new reel at a place that holds a pointer, and gives what the place holds then.
+fn begin(beginning: Beginning, before: NonNull<c::Reel>) -> (Answer, *mut c::Reel) {
+    let Beginning { format, store, transform } = beginning;
+    let mut place = before.as_ptr();
+    // SAFETY: both pointers are to variables that outlive the call.
+    let answer = answered(|answer| unsafe { c::desktern_new(format, store, transform, &mut place, answer) });
+    (answer, place)
 }
 
 /// Begins with an answer that no call gives, so that a field which is not written shows.
@@ -74,14 +93,24 @@ fn answered(call: impl FnOnce(*mut Answer)) -> Answer {
 }
 
 // SAFETY, of all calls below: the reel was made by `desktern_new` and is given back only by `drop`; `&mut self` keeps two calls on it apart; and what the
-// other pointers point to is as long as is said.
+// other pointers point to is as long as is said; bytes may be null where there are none.
 impl Calls for LibraryReel {
+    fn ask_for_new(&mut self, beginning: Beginning) -> Answer {
+        let (answer, after) = begin(beginning, self.reel);
+        assert_eq!(after, self.reel.as_ptr(), "{beginning:?} is answered {answer:?}, and the reel in its place is not as it was");
+        answer
+    }
+
     fn open(&mut self, kind: u32, rounding: u32, layout: u32) -> Answer {
         self.call(|reel, answer| unsafe { c::desktern_open(reel, kind, rounding, layout, answer) })
     }
 
     fn deliver(&mut self, segment: u32, bytes: &[u8]) -> Answer {
         self.call(|reel, answer| unsafe { c::desktern_deliver(reel, segment, bytes.as_ptr(), bytes.len(), answer) })
+    }
+
+    fn deliver_null(&mut self, segment: u32) -> Answer {
+        self.call(|reel, answer| unsafe { c::desktern_deliver(reel, segment, ptr::null(), 0, answer) })
     }
 
     fn close(&mut self) -> Answer {

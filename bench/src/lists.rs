@@ -1,5 +1,6 @@
 //! Random lists of calls, each made from its seed.
 
+use crate::answers::Beginning;
 use crate::damage::damage;
 use crate::pictures::{is_sound, segment_count, segment_rows, Format};
 use crate::random::Random;
@@ -7,18 +8,31 @@ use crate::records::PictureKind;
 use crate::reel::PICTURE_LIMIT;
 use crate::writer::{draw_mix, to_bytes, write_delivery, Codes, Levels, Mix, Quantizers, Runs, VectorMix};
 
+/// `New` asks for a new reel in the place of this one, by numbers of which one at least names nothing, so that this reel stays. `DeliverNull` delivers no
+/// bytes, by a null pointer.
 #[derive(Clone, Debug)]
 pub enum Call {
+    New(Beginning),
     Open { kind: u32, rounding: u32, layout: u32 },
     Deliver { segment: u32, bytes: Vec<u8> },
+    DeliverNull { segment: u32 },
     Close,
     Sample { plane: u32, across: u32, down: u32 },
     Age { column: u32, row: u32 },
 }
 
-/// The calls of one reel. The format's number may name none; then no reel is made, and no call.
+impl Call {
+    /// Is it about a sample or an age?
+    pub fn is_question(&self) -> bool {
+        matches!(self, Call::Sample { .. } | Call::Age { .. })
+    }
+}
+
+/// The calls of one reel.
 #[derive(Clone, Debug)]
 pub struct List {
+    /// What is asked for before the reel: in each, one of the numbers at least names nothing.
+    pub unknown: Vec<Beginning>,
     pub format: u32,
     pub calls: Vec<Call>,
 }
@@ -38,13 +52,34 @@ struct Temper {
     new_mix: u32,
 }
 
-/// The list of a seed.
+/// The list of a seed. One in ten asks first for reels that there are not.
 pub fn list(seed: u64) -> List {
     let mut random = Random::new(seed);
-    if random.once_in(200) {
-        let format = random.pick(&[0, 4, 5, 255, 256, 257, u32::MAX, u32::MAX - 2]);
-        return List { format, calls: Vec::new() };
+    let unknown = if random.once_in(10) { random.between(1, 6) } else { 0 };
+    let unknown = (0..unknown).map(|_| draw_unknown(&mut random)).collect();
+    List { unknown, ..draw_list(random) }
+}
+
+/// The calls of pictures that a reel may have shown before a list; the first of them is INTRA, and all are closed.
+pub fn pictures_before(seed: u64, format: u32) -> Vec<Call> {
+    let mut random = Random::new(seed);
+    let pictures = random.between(1, 3) as usize;
+    tempered_list(random, format, Temper { pictures, intra: 25, missing: 20, damaged: 0, stray: 0, new_mix: 80 }).calls
+}
+
+/// Numbers for a new reel, of which one, two or all three name nothing.
+fn draw_unknown(random: &mut Random) -> Beginning {
+    const NO_FORMATS: [u32; 8] = [0, 4, 5, 255, 256, 257, u32::MAX, u32::MAX - 2];
+    const NO_CHOICES: [u32; 9] = [2, 3, 4, 255, 256, 257, 65_536, 1 << 31, u32::MAX];
+    let wrong = random.between(1, 7);
+    Beginning {
+        format: if wrong & 1 == 1 { random.pick(&NO_FORMATS) } else { random.pick(&[1, 2, 3]) },
+        store: if wrong & 2 == 2 { random.pick(&NO_CHOICES) } else { random.pick(&[0, 1]) },
+        transform: if wrong & 4 == 4 { random.pick(&NO_CHOICES) } else { random.pick(&[0, 1]) },
     }
+}
+
+fn draw_list(mut random: Random) -> List {
     if random.once_in(500) {
         return long_list(random);
     }
@@ -71,7 +106,7 @@ pub fn list_to_the_limit() -> List {
     let grey = Call::Open { kind: 0, rounding: 0, layout: 1 };
     let mut calls: Vec<Call> = (0..PICTURE_LIMIT).flat_map(|_| [grey.clone(), Call::Close]).collect();
     calls.extend([grey, Call::Open { kind: 7, rounding: 0, layout: 0 }, Call::Close, Call::Sample { plane: 0, across: 0, down: 0 }]);
-    List { format: 1, calls }
+    List { unknown: Vec::new(), format: 1, calls }
 }
 
 fn tempered_list(random: Random, format: u32, temper: Temper) -> List {
@@ -130,7 +165,7 @@ fn long_list(random: Random) -> List {
 fn wild_list(random: Random, format: u32) -> List {
     let mut builder = Builder::new(random, format);
     for _ in 0..builder.random.between(5, 60) {
-        match builder.random.below(6) {
+        match builder.random.below(7) {
             0 => builder.open_anything(),
             1 => {
                 let is_intra = builder.random.percent(50);
@@ -144,6 +179,7 @@ fn wild_list(random: Random, format: u32) -> List {
                 }
             }
             4 => builder.close(),
+            5 => builder.ask_for_new(),
             _ => builder.ask(),
         }
     }
@@ -169,7 +205,12 @@ impl Builder {
     }
 
     fn end(self) -> List {
-        List { format: self.number, calls: self.calls }
+        List { unknown: Vec::new(), format: self.number, calls: self.calls }
+    }
+
+    fn ask_for_new(&mut self) {
+        let unknown = draw_unknown(&mut self.random);
+        self.calls.push(Call::New(unknown));
     }
 
     /// Opens an INTRA picture in a sound layout, or an INTER one in the finished picture's.
@@ -253,13 +294,19 @@ impl Builder {
 
     fn deliver(&mut self, segment: u32) {
         let (_, words) = self.draw_words(segment);
-        self.calls.push(Call::Deliver { segment, bytes: to_bytes(&words) });
+        self.push_delivery(segment, to_bytes(&words));
+    }
+
+    /// In half of the cases no bytes are given by a null pointer.
+    fn push_delivery(&mut self, segment: u32, bytes: Vec<u8>) {
+        let is_null = bytes.is_empty() && self.random.percent(50);
+        self.calls.push(if is_null { Call::DeliverNull { segment } } else { Call::Deliver { segment, bytes } });
     }
 
     fn deliver_damaged(&mut self, segment: u32) {
         let (kind, words) = self.draw_words(segment);
         let bytes = damage(&mut self.random, kind, &words);
-        self.calls.push(Call::Deliver { segment, bytes });
+        self.push_delivery(segment, bytes);
     }
 
     fn deliver_segment(&mut self, segment: u32, temper: &Temper) {
@@ -283,12 +330,12 @@ impl Builder {
         match self.random.below(4) {
             0 => self.deliver(segment),
             1 => self.deliver_damaged(segment),
-            2 => self.calls.push(Call::Deliver { segment, bytes: Vec::new() }),
+            2 => self.push_delivery(segment, Vec::new()),
             _ => {
                 let kind = self.random.pick(&[PictureKind::Intra, PictureKind::Inter]);
                 let rows = self.random.between(1, self.format.rows() as i32) as usize;
                 let words = write_delivery(&mut self.random, kind, self.format.columns(), rows, &self.mix);
-                self.calls.push(Call::Deliver { segment, bytes: to_bytes(&words) });
+                self.push_delivery(segment, to_bytes(&words));
             }
         }
     }
@@ -303,10 +350,11 @@ impl Builder {
     /// A call in between that a well-behaved caller would not make, or a question.
     fn stray(&mut self, chance: u32) {
         while self.random.percent(chance) {
-            match self.random.below(8) {
+            match self.random.below(9) {
                 0 | 1 => self.stray_opening(),
                 2 | 3 => self.deliver_anything(),
                 4 if self.open.is_none() => self.close(),
+                5 => self.ask_for_new(),
                 _ => self.ask(),
             }
         }

@@ -62,6 +62,19 @@ impl Format {
     }
 }
 
+/// How samples are kept. It changes no answer, so that a decoder with one layout in memory may pass it over.
+#[derive(Clone, Copy, Debug, PartialEq, Eq)]
+pub enum Store {
+    Bytes = 0,
+    Tiles = 1,
+}
+
+impl Store {
+    pub fn from_number(number: u32) -> Option<Self> {
+        [Store::Bytes, Store::Tiles].into_iter().find(|&store| store as u32 == number)
+    }
+}
+
 /// Does a segment begin at row 0, and none below the picture?
 pub fn is_sound(layout: u32, rows: usize) -> bool {
     layout & 1 == 1 && layout >> rows == 0
@@ -93,7 +106,7 @@ pub fn aged(age: u8) -> u8 {
 }
 
 /// Samples row by row from the top, without gaps.
-#[derive(Clone, Debug)]
+#[derive(Clone, Debug, PartialEq, Eq)]
 pub struct Plane {
     pub width: usize,
     pub samples: Vec<u8>,
@@ -110,7 +123,7 @@ impl Plane {
 }
 
 /// The three planes of a picture, and the ages of its macroblocks.
-#[derive(Clone, Debug)]
+#[derive(Clone, Debug, PartialEq, Eq)]
 pub struct Picture {
     pub planes: [Plane; PLANES],
     pub ages: Vec<u8>,

@@ -1,7 +1,7 @@
 //! A reel: the calls, the questions each is put, and the two pictures.
 
-use crate::answers::{Answer, Calls, Refusal};
-use crate::pictures::{aged, is_sound, segment_count, segment_rows, Format, Picture, GREY, NEVER, SIDES};
+use crate::answers::{Answer, Beginning, Calls, Refusal};
+use crate::pictures::{aged, is_sound, segment_count, segment_rows, Format, Picture, Store, GREY, NEVER, SIDES};
 use crate::rebuild::{Manner, Rebuilder};
 use crate::records::{Counts, PictureKind, Records};
 use crate::transform::Transform;
@@ -34,9 +34,11 @@ struct OpenPicture {
 }
 
 impl Reel {
-    /// A resting reel whose planes and ages are 0.
-    pub fn new(format: u32, transform: Transform) -> Result<Self, Answer> {
-        let format = Format::from_number(format).ok_or(Refusal::of_picture(1))?;
+    /// A resting reel whose planes and ages are 0. It keeps samples in one way, whatever the store.
+    pub fn new(beginning: Beginning) -> Result<Self, Answer> {
+        let format = Format::from_number(beginning.format).ok_or(Refusal::of_picture(1))?;
+        Store::from_number(beginning.store).ok_or(Answer::unknown_choice())?;
+        let transform = Transform::from_number(beginning.transform).ok_or(Answer::unknown_choice())?;
         Ok(Reel {
             format,
             transform,
@@ -135,6 +137,10 @@ impl Reel {
 }
 
 impl Calls for Reel {
+    fn ask_for_new(&mut self, beginning: Beginning) -> Answer {
+        Reel::new(beginning).err().expect("one of the numbers names nothing")
+    }
+
     fn open(&mut self, kind: u32, rounding: u32, layout: u32) -> Answer {
         if self.open.is_some() {
             return Answer::out_of_turn();
@@ -198,4 +204,27 @@ fn copy_if_room(source: &[u8], target: &mut [u8]) -> usize {
         target.copy_from_slice(source);
     }
     source.len()
+}
+
+#[cfg(test)]
+mod tests {
+    use super::*;
+
+    fn answer(format: u32, store: u32, transform: u32) -> Option<Answer> {
+        Reel::new(Beginning { format, store, transform }).err()
+    }
+
+    #[test]
+    fn new_reels() {
+        for (store, transform) in [(0, 0), (0, 1), (1, 0), (1, 1)] {
+            assert_eq!(answer(1, store, transform), None);
+        }
+        for (store, transform) in [(2, 0), (0, 2), (256, 1), (1, u32::MAX), (7, 7)] {
+            assert_eq!(answer(3, store, transform), Some(Answer { outcome: 4, ..Answer::default() }));
+        }
+        // The format is asked first.
+        for (store, transform) in [(0, 0), (2, 0), (0, 2), (7, 7)] {
+            assert_eq!(answer(4, store, transform), Some(Refusal::of_picture(1).into()));
+        }
+    }
 }

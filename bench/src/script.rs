@@ -1,20 +1,13 @@
 //! Plays a script: reads its lines, makes the calls and prints the answers.
 
-use crate::answers::{Answer, Calls, Layer, ACCEPTED, REFUSED};
-use crate::pictures::{Format, PLANES};
+use crate::answers::{Answer, Beginning, Calls, Layer, ACCEPTED, REFUSED};
+use crate::pictures::{Format, Store, PLANES};
 use crate::records::{Macroblock, MacroblockType, PictureKind, Records};
 use crate::transform::Transform;
 use std::fmt::Write;
 
-/// How samples are kept. A decoder with one memory layout may pass it over, as it changes no answer.
-#[derive(Clone, Copy, Debug, PartialEq, Eq)]
-pub enum Store {
-    Bytes,
-    Tiles,
-}
-
-/// Makes a reel of a format, or refuses.
-pub type Maker<'a> = &'a dyn Fn(u32, Store, Transform) -> Result<Box<dyn Calls>, Answer>;
+/// Makes a reel, or refuses.
+pub type Maker<'a> = &'a dyn Fn(Beginning) -> Result<Box<dyn Calls>, Answer>;
 
 const BYTES_WANTED: &str = "bytes are pairs of hexadecimal digits, or - for none";
 
@@ -166,7 +159,7 @@ impl Player<'_> {
     }
 
     fn begin(&mut self, number: u32) {
-        match (self.maker)(number, self.store, self.transform) {
+        match (self.maker)(Beginning::of(number, self.store, self.transform)) {
             Ok(calls) => {
                 self.close_if_open();
                 let format = Format::from_number(number).expect("a reel is of one of the formats");

@@ -25,8 +25,14 @@ const MIDDLE_GREY_CODE: u8 = 255;
 
 #[derive(Clone, Copy, Debug, PartialEq, Eq)]
 pub enum Transform {
-    TwoPass,
-    Direct,
+    TwoPass = 0,
+    Direct = 1,
+}
+
+impl Transform {
+    pub fn from_number(number: u32) -> Option<Self> {
+        [Transform::TwoPass, Transform::Direct].into_iter().find(|&transform| transform as u32 == number)
+    }
 }
 
 /// The coefficients of a block, and which of its rows have any.

@@ -1,9 +1,8 @@
 //! Plays a script from standard input with the plain decoder.
 
-use desktern_bench::answers::{Answer, Calls};
+use desktern_bench::answers::{Answer, Beginning, Calls};
 use desktern_bench::reel::Reel;
-use desktern_bench::script::{self, Store};
-use desktern_bench::transform::Transform;
+use desktern_bench::script;
 use std::io::{self, Read, Write};
 
 fn main() -> io::Result<()> {
@@ -12,6 +11,6 @@ fn main() -> io::Result<()> {
     io::stdout().write_all(script::play(&bytes, &make).as_bytes())
 }
 
-fn make(format: u32, _: Store, transform: Transform) -> Result<Box<dyn Calls>, Answer> {
-    Ok(Box::new(Reel::new(format, transform)?))
+fn make(beginning: Beginning) -> Result<Box<dyn Calls>, Answer> {
+    Ok(Box::new(Reel::new(beginning)?))
 }

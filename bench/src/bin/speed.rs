@@ -1,12 +1,11 @@
 //! Measures the plain decoder and the proved library on the same deliveries, and prints macroblocks per second and their ratio.
 
-use desktern_bench::answers::{Answer, Calls, ACCEPTED, REFUSED};
+use desktern_bench::answers::{Answer, Beginning, Calls, ACCEPTED, REFUSED};
 use desktern_bench::library::LibraryReel;
-use desktern_bench::pictures::Format;
+use desktern_bench::pictures::{Format, Store};
 use desktern_bench::random::Random;
 use desktern_bench::records::PictureKind;
 use desktern_bench::reel::{Reel, PICTURE_LIMIT};
-use desktern_bench::script::Store;
 use desktern_bench::transform::Transform;
 use desktern_bench::writer::{to_bytes, write_delivery, Codes, Levels, Mix, Quantizers, Runs, VectorMix};
 use std::hint::black_box;
@@ -171,8 +170,8 @@ fn format_of(number: u32) -> Format {
 
 /// Prints a row of the table.
 fn measure(heading: &str, format: u32, transform: Transform, work: &Work) {
-    let plain = || Reel::new(format, transform).expect("the format is one");
-    let library = |store| move || LibraryReel::new(format, store, transform).expect("the format is one");
+    let plain = || Reel::new(Beginning::of(format, Store::Bytes, transform)).expect("the format is one");
+    let library = |store| move || LibraryReel::new(Beginning::of(format, store, transform)).expect("the format is one");
     let macroblocks = (BATCH * format_of(format).macroblocks()) as f64;
     let mut best = [0.0f64; 3];
     for _ in 0..ROUNDS {
