@@ -175,7 +175,7 @@ fn compare_used(list: &List, made: &[Made; TRANSFORMS.len()], used: Used, counts
             return Err(format!("after all calls a used reel, {store:?}, {transform:?}, shows another picture"));
         }
     }
-    counts.used_lists += 1;
+    counts.used_reels += 1;
     Ok(())
 }
 
@@ -374,7 +374,7 @@ struct Counts {
     deliveries_by_null: u64,
     /// Calls after which what is shown was compared with what was shown before, counted for each transform.
     unchanged: u64,
-    used_lists: u64,
+    used_reels: u64,
     used_calls: u64,
     pictures: u64,
     pictures_by_age: Met<256>,
@@ -482,7 +482,7 @@ impl Counts {
         println!("out of turn: {}, unknown choices: {}", self.out_of_turn, self.unknown_choices);
         println!("deliveries by a null pointer: {}", self.deliveries_by_null);
         println!("calls after which all reels were seen to show what they had shown: {} (both transforms together)", self.unchanged);
-        println!("lists made on used reels of the library too: {}, with {} calls", self.used_lists, self.used_calls);
+        println!("used reels of the library: {}, which were given {} calls", self.used_reels, self.used_calls);
         println!("pictures {}, samples compared {}, ages compared {}", self.pictures, self.samples, self.ages);
         println!("macroblocks in accepted deliveries: {skipped} skipped, {inter} INTER, {intra} INTRA, of {BLOCKS} blocks each");
         println!(
