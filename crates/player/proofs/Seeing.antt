@@ -1,9 +1,7 @@
 -- What lines come to, step after step.
-use Rattle.std.proofs.Common.{◌≡◌, List, [], ◌∷◌, IsSome, Some, None, Option, Ok, sym, refl, ap, ◌∙◌, subst, string_bytes}
+use Rattle.std.proofs.Common.{◌≡◌, IsSome, Some, None, Option, Ok, refl, ap, ◌∙◌, subst, string_bytes}
 use Rattle.std.specs.Option.{option_map}
 use Rattle.calls.specs.Runs.{Calling, step}
-use Rattle.call_lines.specs.declared.line.StoreKind.{StoreKind}
-use Rattle.call_lines.specs.declared.line.TransformKind.{TransformKind}
 use Rattle.transcripts.specs.declared.transcript.Transcript.{Transcript}
 use Rattle.transcripts.specs.Told.{Tells, Told, accepted, told_by}
 use Rattle.seats.specs.declared.seat.Choices.{Choices}

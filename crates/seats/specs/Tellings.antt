@@ -1,12 +1,12 @@
 -- What is told of the calls of a reel.
-use Rattle.std.specs.Prelude.{◌≡◌, ℕ, zero, suc, ◌*◌, List, [], ◌∷◌, true, false, Bool, Some, None, Ok, Err, Option, Result, drop, take}
+use Rattle.std.specs.Prelude.{ℕ, zero, suc, ◌*◌, List, Ok, Err, Result, drop, take}
 use Rattle.pictures.specs.declared.formats.Format.{Format}
 use Rattle.pictures.specs.Formats.{columns_of, rows_of}
 use Rattle.calls.specs.declared.answers.Answer.{Answer}
 use Rattle.calls.specs.declared.answers.Answer.TheVariants.{Opened, Delivered, Closed, Sample, Age, Refused, OutOfTurn}
 use Rattle.calls.specs.declared.faults.PictureFault.{PictureFault}
 use Rattle.calls.specs.Held.{Held}
-use Rattle.calls.specs.Runs.{Calling, Control, Setting, State, asking_age, asking_sample, closing, control, delivering, open_to, opening, reply, resting, step}
+use Rattle.calls.specs.Runs.{Calling, Control, Setting, State, asking_age, closing, control, open_to, reply, resting, step}
 use Rattle.transcripts.specs.declared.answers.Word.TheVariants as word
 use Rattle.transcripts.specs.Answers.{ages_text, answer_text, word_for}
 use Rattle.transcripts.specs.Sums.{sums_text}

@@ -1,8 +1,7 @@
 -- The calls that the lines of a script make.
-use Rattle.std.specs.Prelude.{List, [], ◌∷◌, Some, None, Ok, Err, Result, Option}
-use Rattle.call_lines.specs.declared.line.Line.{Line}
+use Rattle.std.specs.Prelude.{Some, None, Ok, Err, Result, Option}
 use Rattle.script.specs.declared.line.Mistake.{Mistake}
-use Rattle.call_lines.specs.Lines.{Meaning, age, ages, close, deliver, new, opened, records, sample, store, told, transform}
+use Rattle.call_lines.specs.Lines.{Meaning, age, ages, close, deliver, new, opened, records, sample, store, transform}
 use Rattle.calls.specs.Runs.{Calling, asking_age, asking_sample, closing, delivering, opening}
 
 -- the call on a reel that a line makes, if it makes one
