@@ -10,7 +10,8 @@ use Rattle.calls.specs.declared.faults.PictureFault.{PictureFault}
 use Rattle.calls.specs.Held.{Held, fits_rest, fits_store, fits_table}
 use Rattle.calls.specs.Questions.{judge_age, judge_closing, judge_delivery, judge_opening, judge_sample}
 use Rattle.calls.specs.Laws.{AcceptedAlike, Book, FitAlike, blank, but_value, granted, log, noted, read_off}
-use Rattle.calls.specs.Runs.{Calling, opening, delivering, closing, asking_sample, asking_age, Contents, Control, Setting, State, after, all_fit, answer, control, delivered, finish, moved, new, onward, open_to, replies, resting, setting_of, step, told, unmarked, when_read}
+use Rattle.calls.specs.Runs.{Calling, Contents, Control, Setting, State, after, all_fit, answer, control, delivered, finish, moved, new, onward, open_to, replies, resting, setting_of, step, told, unmarked, when_read}
+use Rattle.calls.specs.declared.answers.Call.TheVariants.{Open as opening, Deliver as delivering, Close as closing, Sample as asking_sample, Age as asking_age}
 
 -- whether a call is accepted does not rest on a value
 granted_is : (a : Answer) → granted (but_value a) ≡ granted a

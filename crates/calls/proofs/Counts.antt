@@ -16,7 +16,8 @@ use Rattle.calls.specs.Held.{Held}
 use Rattle.calls.specs.Questions.{in_grid, judge_age, judge_closing, judge_delivery, judge_opening, kind_of, rounding_from}
 use Rattle.calls.specs.Effects.{age_at, fill_age, segment_rebuilt}
 use Rattle.calls.specs.Laws.{Aged, Book, Coding, age_by, blank, coded_since, coded_intra, count, delivered_records, granted, is_intra_picture, log, noted, read_off}
-use Rattle.calls.specs.Runs.{Calling, opening, delivering, closing, asking_sample, asking_age, Contents, Control, Setting, Stage, State, after, all_fit, answer, control, delivered, finish, finished_of, moved, new, onward, open_to, resting, run, setting_of, step, taken, told, unmarked, when_read}
+use Rattle.calls.specs.Runs.{Calling, Contents, Control, Setting, Stage, State, after, all_fit, answer, control, delivered, finish, finished_of, moved, new, onward, open_to, resting, run, setting_of, step, taken, told, unmarked, when_read}
+use Rattle.calls.specs.declared.answers.Call.TheVariants.{Open as opening, Deliver as delivering, Close as closing, Sample as asking_sample, Age as asking_age}
 use Rattle.calls.proofs.Alike.{Based, all_intra, all_read}
 use Rattle.calls.proofs.Bits.{set_bit, zero_bit}
 use Rattle.calls.proofs.Pointwise.{closed_age, coded_intra_lem, made_age}

@@ -15,7 +15,8 @@ use Rattle.calls.specs.Held.{Held}
 use Rattle.calls.specs.Questions.{is_finished, judge_age, judge_closing, judge_opening, judge_sample, kind_of, rounding_from}
 use Rattle.calls.specs.Effects.{age_at}
 use Rattle.calls.specs.Laws.{Elsewhere, OthersUntouched, Own, Rewritten, SameElsewhere, SameToOthers, added, alike, kept, marks, omitted, over, own_age, own_delivery, own_sample, row_of}
-use Rattle.calls.specs.Runs.{Calling, opening, delivering, closing, asking_sample, asking_age, Contents, Control, Setting, Stage, after, all_fit, answer, control, delivered, finish, finished_of, moved, new, onward, open_to, resting, setting_of, told, unmarked, when_read}
+use Rattle.calls.specs.Runs.{Calling, Contents, Control, Setting, Stage, after, all_fit, answer, control, delivered, finish, finished_of, moved, new, onward, open_to, resting, setting_of, told, unmarked, when_read}
+use Rattle.calls.specs.declared.answers.Call.TheVariants.{Open as opening, Deliver as delivering, Close as closing, Sample as asking_sample, Age as asking_age}
 use Rattle.calls.proofs.Alike.{Based, FinishedAlike, In, WorkingAlike, all_read, both_deliver, judged, both_finish, keeps_finished, none_accepted, source}
 use Rattle.calls.proofs.Bits.{other_bit}
 use Rattle.calls.proofs.Pointwise.{kept_sample, made_age}

@@ -20,7 +20,8 @@ use Rattle.calls.specs.declared.faults.PictureFault.{PictureFault}
 use Rattle.calls.specs.Held.{Held, cells_of, fits, fits_store, fits_table}
 use Rattle.calls.specs.Questions.{judge_closing, judge_delivery, judge_opening}
 use Rattle.calls.specs.Effects.{filled_picture, picture_closed, segment_rebuilt}
-use Rattle.calls.specs.Runs.{Calling, opening, delivering, closing, asking_sample, asking_age, Contents, Control, Setting, State, after, all_fit, control, finish, moved, open_to, resting, run, setting_of, step, unmarked, when_read}
+use Rattle.calls.specs.Runs.{Calling, Contents, Control, Setting, State, after, all_fit, control, finish, moved, open_to, resting, run, setting_of, step, unmarked, when_read}
+use Rattle.calls.specs.declared.answers.Call.TheVariants.{Open as opening, Deliver as delivering, Close as closing, Sample as asking_sample, Age as asking_age}
 use Rattle.calls.proofs.Tables.{filled_length, set_length}
 use Rattle.calls.proofs.Verdicts.{closing_passed, delivery_passed}
 

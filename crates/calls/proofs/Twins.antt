@@ -16,7 +16,8 @@ use Rattle.calls.specs.declared.faults.PictureFault.TheVariants as fault
 use Rattle.calls.specs.Held.{Held}
 use Rattle.calls.specs.Questions.{is_finished, judge_age, judge_closing, judge_delivery, judge_opening, judge_sample, kind_of, rounding_from}
 use Rattle.calls.specs.Laws.{Limited, SamePicture, SameUntilLimit, WithoutClosing, row_of}
-use Rattle.calls.specs.Runs.{Calling, opening, delivering, closing, asking_sample, asking_age, Contents, Control, Setting, Stage, State, after, all_fit, answer, control, delivered, finish, moved, new, onward, open_to, reply, resting, run, setting_of, step, told, told_age, told_sample, unmarked, when_read}
+use Rattle.calls.specs.Runs.{Calling, Contents, Control, Setting, Stage, State, after, all_fit, answer, control, delivered, finish, moved, new, onward, open_to, reply, resting, run, setting_of, step, told, told_age, told_sample, unmarked, when_read}
+use Rattle.calls.specs.declared.answers.Call.TheVariants.{Open as opening, Deliver as delivering, Close as closing, Sample as asking_sample, Age as asking_age}
 use Rattle.calls.proofs.Alike.{Based, FinishedAlike, In, WorkingAlike, both_deliver, both_finish, judged, keeps_finished, none_accepted, source}
 use Rattle.calls.proofs.Sizes.{Agrees, one_setting, run_agrees, same_setting}
 use Rattle.calls.proofs.Verdicts.{age_passed, closing_passed, judged_same, opening_passed, sample_passed}

@@ -16,7 +16,8 @@ use Rattle.calls.specs.declared.faults.PictureFault.TheVariants as fault
 use Rattle.calls.specs.Held.{Held, fits_rest, fits_store, fits_table}
 use Rattle.calls.specs.Questions.{in_grid, kind_of, macroblocks_in}
 use Rattle.calls.specs.Effects.{age_at}
-use Rattle.calls.specs.Runs.{Calling, opening, delivering, closing, asking_sample, asking_age, Setting, setting_of, State, new, replies, reply, run, shows, step}
+use Rattle.calls.specs.Runs.{Calling, Setting, setting_of, State, new, replies, reply, run, shows, step}
+use Rattle.calls.specs.declared.answers.Call.TheVariants.{Open as opening, Deliver as delivering, Close as closing, Sample as asking_sample, Age as asking_age}
 
 -- a place of a picture of a format, and its macroblock row
 abbrev pub in_picture : Format → ℕ → ℕ → ℕ → Bool

@@ -9,28 +9,30 @@ use Rattle.pictures.specs.Segments.{segment_at, segment_count}
 use Rattle.calls.specs.declared.answers.Answer.{Answer}
 use Rattle.calls.specs.declared.answers.Answer.TheVariants.{Opened, Delivered, Closed, Sample, Age, Refused, OutOfTurn}
 use Rattle.calls.specs.declared.answers.Call.{Call}
-use Rattle.calls.specs.declared.answers.Call.TheVariants as call
+use Rattle.calls.specs.declared.answers.Call.TheVariants.{Open as opening, Deliver as delivering, Close as closing, Sample as asking_sample, Age as asking_age}
+use denote.Ref.{Bor}
 use Rattle.calls.specs.declared.faults.PictureFault.{PictureFault}
 use Rattle.calls.specs.Held.{Held, fits_rest, fits_store, fits_table}
 use Rattle.calls.specs.Questions.{judge_age, judge_closing, judge_delivery, judge_opening, judge_sample, kind_of, rounding_from}
 use Rattle.calls.specs.Effects.{age_at, picture_closed, segment_rebuilt}
 
 -- a call with the bytes that it is given
-pub data Calling : Type 0 where
-  opening : (kind rounding layout : ℕ) → Calling
-  delivering : (segment : ℕ) (bytes : List ℕ) → Calling
-  closing : Calling
-  asking_sample : (plane across down : ℕ) → Calling
-  asking_age : (column row : ℕ) → Calling
+abbrev pub Calling : Type 0
+Calling = Call (List ℕ)
 
-abbrev pub call_of : Call → Calling
-call_of (call.Open kind rounding layout) = opening kind rounding layout
-call_of (call.Deliver segment bytes) = delivering segment bytes.now
-call_of call.Close = closing
-call_of (call.Sample plane across down) = asking_sample plane across down
-call_of (call.Age column row) = asking_age column row
+-- the call with other bytes in the place of its own
+abbrev pub with_bytes : {B C : Type 0} → (B → C) → Call B → Call C
+with_bytes f (opening kind rounding layout) = opening kind rounding layout
+with_bytes f (delivering segment bytes) = delivering segment (f bytes)
+with_bytes f closing = closing
+with_bytes f (asking_sample plane across down) = asking_sample plane across down
+with_bytes f (asking_age column row) = asking_age column row
 
-abbrev pub calls_of : List Call → List Calling
+-- the call that is made where the bytes are lent
+abbrev pub call_of : Call (Bor (List ℕ)) → Calling
+call_of c = with_bytes (λ bytes. bytes.now) c
+
+abbrev pub calls_of : List (Call (Bor (List ℕ))) → List Calling
 calls_of [] = []
 calls_of (c ∷ cs) = call_of c ∷ calls_of cs
 

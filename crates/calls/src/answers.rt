@@ -5,7 +5,7 @@ use records::types::Delivered;
 // A call on a reel or on its slip. (Its numbers are the caller's, one by one: what stands for no kind, rounding or plane
 // is refused by the call, in its turn. Kind, rounding and layout stay apart: a struct of them would be made and taken apart again at each call.)
 #[derive(Clone, Copy)]
-pub enum Call<'a> {
+pub enum Call<B> {
     Open {
         kind: u32,
         rounding: u32,
@@ -13,7 +13,7 @@ pub enum Call<'a> {
     },
     Deliver {
         segment: u32,
-        bytes: &'a [u8],
+        bytes: B,
     },
     Close,
     Sample {

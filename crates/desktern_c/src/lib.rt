@@ -5,7 +5,7 @@
 ghost use Rattle.std.specs.Prelude.{◌≡◌, None, Option, length};
 ghost use Rattle.std.specs.Borrow.{sem};
 ghost use denote.RawPtr.{null_ptr};
-ghost use Rattle.calls.specs.Runs.{asking_age, asking_sample, closing, delivering, opening};
+ghost use Rattle.calls.specs.declared.answers.Call.TheVariants.{Age as asking_age, Sample as asking_sample, Close as closing, Deliver as delivering, Open as opening};
 ghost use Rattle.pictures.specs.Formats.{numbered};
 ghost use Rattle.handles.specs.Handles.{Answered, ages_at, finished_at, slot_owns};
 ghost use Rattle.seats.specs.Copies.{laid_over, plane_samples, plane_size};

@@ -40,7 +40,7 @@ impl ReelHandle {
     }
 
     // Makes one call.
-    pub fn step(&mut self, call: &Call) -> AnswerNumbers
+    pub fn step(&mut self, call: &Call<&[u8]>) -> AnswerNumbers
         ensures { Answered self.old (call_of call.now) self.new result }
     {
         let answer = self.kept().step(call);

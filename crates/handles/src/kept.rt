@@ -27,7 +27,7 @@ impl KeptReel {
     }
 
     // Makes one call.
-    pub fn step(&mut self, call: &Call) -> Answer
+    pub fn step(&mut self, call: &Call<&[u8]>) -> Answer
         ensures { Turned self.old.seat (call_of call.now) self.new.seat result }
     {
         replace_with(&mut self.seat, call, Seat::step)

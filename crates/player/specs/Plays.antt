@@ -10,7 +10,8 @@ use Rattle.script.specs.Fields.{lines_of}
 use Rattle.script.specs.Lines as script_lines
 use Rattle.calls.specs.declared.answers.Answer.TheVariants.{Delivered, OutOfTurn, Refused}
 use Rattle.calls.specs.declared.faults.PictureFault.TheVariants as fault
-use Rattle.calls.specs.Runs.{Calling, Setting, State, asking_age, asking_sample, closing, delivering, opening, setting_of, step}
+use Rattle.calls.specs.Runs.{Calling, Setting, State, setting_of, step}
+use Rattle.calls.specs.declared.answers.Call.TheVariants.{Age as asking_age, Sample as asking_sample, Close as closing, Deliver as delivering, Open as opening}
 use Rattle.calls.specs.Runs as runs
 use Rattle.call_lines.specs.declared.line.StoreKind.{StoreKind}
 use Rattle.call_lines.specs.declared.line.TransformKind.{TransformKind}

@@ -40,7 +40,7 @@ fn read_lines(heap: Global, script: &[u8]) -> Result<Vec<Said>, AllocError>
 
 // Makes a call on the reel there is, and tells the answer; without a reel it is out of turn. (The seat goes by value from step to step, and not in a struct
 // that is lent: a seat cannot be let go, so none can be put over another.)
-fn make_call(seat: Option<Seat>, call: &Call, transcript: &mut Transcript) -> Option<Seat>
+fn make_call(seat: Option<Seat>, call: &Call<&[u8]>, transcript: &mut Transcript) -> Option<Seat>
     ensures { (choices : Choices) → Plays (make_call (call_of call.now)) seat choices transcript.old result choices transcript.new }
 {
     match seat {

@@ -9,7 +9,8 @@ use Rattle.rebuild.proofs.Cells.{accepted_is}
 use Rattle.calls.specs.declared.faults.PictureFault.{PictureFault}
 use Rattle.calls.specs.Held.{Held, fits}
 use Rattle.calls.specs.Questions.{macroblocks_in}
-use Rattle.calls.specs.Runs.{all_fit, control, delivering, open_to, setting_of, when_read}
+use Rattle.calls.specs.Runs.{all_fit, control, open_to, setting_of, when_read}
+use Rattle.calls.specs.declared.answers.Call.TheVariants.{Deliver as delivering}
 use Rattle.calls.proofs.Sizes.{same_setting}
 use Rattle.calls.proofs.Verdicts.{delivery_passed}
 use Rattle.reel.specs.declared.reels.Slip.{Slip}

@@ -215,7 +215,7 @@ fn picture_limit(rt: HostRuntime) -> Result<(), Fail> {
 fn replay_in(
     reel: Reel,
     memory: &mut Memory<ByteStore>,
-    calls: &[Call],
+    calls: &[Call<&[u8]>],
     room: &mut [Answer],
 ) -> bool {
     if !memory.fits(reel.format()) {

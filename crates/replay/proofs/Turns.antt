@@ -8,7 +8,8 @@ use Rattle.calls.specs.declared.answers.Answer.TheVariants as answer
 use Rattle.calls.specs.declared.faults.PictureFault.{PictureFault}
 use Rattle.calls.specs.Held.{Held}
 use Rattle.calls.specs.Laws.{granted}
-use Rattle.calls.specs.Runs.{Calling, delivering, reply, step}
+use Rattle.calls.specs.Runs.{Calling, reply, step}
+use Rattle.calls.specs.declared.answers.Call.TheVariants.{Deliver as delivering}
 use Rattle.reel.specs.declared.reels.Slip.{Slip}
 use Rattle.replay.specs.declared.Stage.{Stage}
 use Rattle.replay.specs.declared.Stage.TheVariants.{Open}

@@ -65,7 +65,7 @@ pub fn step<S: Store, T: Transform>(
     stage: Stage,
     memory: &mut Memory<S>,
     transform: &T,
-    call: &Call,
+    call: &Call<&[u8]>,
 ) -> (Stage, Answer)
     ensures state { state_of result.0 (held_in S.picture memory.new) ≡ stepped (setting_at stage (T.meaning transform.now) (held_in S.picture memory.old)) (state_of stage (held_in S.picture memory.old)) (call_of call.now) }
     ensures answer { result.1 ≡ reply (setting_at stage (T.meaning transform.now) (held_in S.picture memory.old)) (state_of stage (held_in S.picture memory.old)) (call_of call.now) }
@@ -110,7 +110,7 @@ pub fn step<S: Store, T: Transform>(
 }
 
 // The calls for whose answers there is room.
-fn with_room<'a, 'b>(calls: &'a [Call<'b>], answers: &[Answer]) -> &'a [Call<'b>]
+fn with_room<'a, 'b>(calls: &'a [Call<&'b [u8]>], answers: &[Answer]) -> &'a [Call<&'b [u8]>]
     ensures { result.now ≡ take (length answers.now) calls.now }
 {
     &calls[..calls.len().min(answers.len())]
@@ -122,7 +122,7 @@ pub fn replay<S: Store, T: Transform>(
     stage: Stage,
     memory: &mut Memory<S>,
     transform: &T,
-    calls: &[Call],
+    calls: &[Call<&[u8]>],
     answers: &mut [Answer],
 ) -> Stage
     ensures runs { Replayed (T.meaning transform.now) stage (held_in S.picture memory.old) (calls_of (take (length answers.old) calls.now)) result (held_in S.picture memory.new) (take (length calls.now) answers.new) }

@@ -6,7 +6,8 @@ use Rattle.calls.specs.declared.answers.Answer.{Answer}
 use Rattle.calls.specs.declared.answers.Answer.TheVariants.{Opened, Delivered, Closed, Sample, Age, Refused, OutOfTurn}
 use Rattle.calls.specs.declared.faults.PictureFault.{PictureFault}
 use Rattle.calls.specs.Held.{Held}
-use Rattle.calls.specs.Runs.{Calling, Control, Setting, State, asking_age, closing, control, open_to, reply, resting, step}
+use Rattle.calls.specs.Runs.{Calling, Control, Setting, State, control, open_to, reply, resting, step}
+use Rattle.calls.specs.declared.answers.Call.TheVariants.{Age as asking_age, Close as closing}
 use Rattle.transcripts.specs.declared.answers.Word.TheVariants as word
 use Rattle.transcripts.specs.Answers.{ages_text, answer_text, word_for}
 use Rattle.transcripts.specs.Sums.{sums_text}

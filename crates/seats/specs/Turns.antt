@@ -2,7 +2,8 @@
 use Rattle.std.specs.Prelude.{Some, None, Ok, Err, Result, Option}
 use Rattle.script.specs.declared.line.Mistake.{Mistake}
 use Rattle.call_lines.specs.Lines.{Meaning, age, ages, close, deliver, new, opened, records, sample, store, transform}
-use Rattle.calls.specs.Runs.{Calling, asking_age, asking_sample, closing, delivering, opening}
+use Rattle.calls.specs.Runs.{Calling}
+use Rattle.calls.specs.declared.answers.Call.TheVariants.{Age as asking_age, Sample as asking_sample, Close as closing, Deliver as delivering, Open as opening}
 
 -- the call on a reel that a line makes, if it makes one
 abbrev pub call_by : Meaning → Option Calling

@@ -2,7 +2,8 @@
 ghost use Rattle.std.specs.Prelude.{◌≡◌, length, IfOk};
 ghost use Rattle.std.specs.Option.{option_map};
 ghost use Rattle.pictures.specs.Formats.{columns_of, rows_of};
-ghost use Rattle.calls.specs.Runs.{asking_age, call_of, reply};
+ghost use Rattle.calls.specs.Runs.{call_of, reply};
+ghost use Rattle.calls.specs.declared.answers.Call.TheVariants.{Age as asking_age};
 ghost use Rattle.call_lines.specs.Lines.{told};
 ghost use Rattle.replay.specs.declared.Stage.TheVariants.{Resting};
 ghost use Rattle.transcripts.specs.Tallies.{is_refused, one_more, one_more_if};
@@ -26,7 +27,7 @@ use transcripts::answers::{AgeRow, Answered, Word};
 use transcripts::transcript::Transcript;
 
 // The call that a line makes on a reel, if it makes one.
-pub fn call_of(line: &Said) -> Option<Call<'_>>
+pub fn call_of(line: &Said) -> Option<Call<&[u8]>>
     ensures { option_map call_of result ≡ call_in (told line.now) }
 {
     let Ok(Some(line)) = line else {
@@ -65,7 +66,7 @@ pub fn call_of(line: &Said) -> Option<Call<'_>>
 }
 
 // Tells the answer to a call, and the sums of the picture that it closed, which the memory still holds.
-fn tell_answer(call: &Call, answer: Answer, memory: &StoredMemory, transcript: &mut Transcript)
+fn tell_answer(call: &Call<&[u8]>, answer: Answer, memory: &StoredMemory, transcript: &mut Transcript)
     ensures calls { transcript.new.calls ≡ one_more transcript.old.calls }
     ensures refused { transcript.new.refused ≡ one_more_if (is_refused answer) transcript.old.refused }
     ensures told { Tells (tell_answer (call_of call.now) answer (held_by memory.now)) transcript.old transcript.new }
@@ -92,7 +93,7 @@ impl Seat {
     }
 
     // Makes one call.
-    pub fn step(self, call: &Call) -> (Seat, Answer)
+    pub fn step(self, call: &Call<&[u8]>) -> (Seat, Answer)
         ensures { Turned self (call_of call.now) result.0 result.1 }
     {
         let Seat {
@@ -110,7 +111,7 @@ impl Seat {
     }
 
     // Makes one call, and tells the answer.
-    pub fn make_call(self, call: &Call, transcript: &mut Transcript) -> Seat
+    pub fn make_call(self, call: &Call<&[u8]>, transcript: &mut Transcript) -> Seat
         ensures turned { Turned self (call_of call.now) result (reply (setting_in self) (state_in self) (call_of call.now)) }
         ensures calls { transcript.new.calls ≡ one_more transcript.old.calls }
         ensures refused { transcript.new.refused ≡ one_more_if (is_refused (reply (setting_in self) (state_in self) (call_of call.now))) transcript.old.refused }

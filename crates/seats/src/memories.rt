@@ -73,7 +73,7 @@ fn replay_by<S: Store>(
     stage: Stage,
     memory: &mut Memory<S>,
     transform: TransformKind,
-    calls: &[Call],
+    calls: &[Call<&[u8]>],
     answers: &mut [Answer],
 ) -> Stage
     requires { fits (format_of stage) (held_in S.picture memory.old) ≡ true }
@@ -93,7 +93,7 @@ fn step_by<S: Store>(
     stage: Stage,
     memory: &mut Memory<S>,
     transform: TransformKind,
-    call: &Call,
+    call: &Call<&[u8]>,
 ) -> (Stage, Answer)
     requires { fits (format_of stage) (held_in S.picture memory.old) ≡ true }
     ensures size { fits (format_of result.0) (held_in S.picture memory.new) ≡ true }
@@ -151,7 +151,7 @@ impl StoredMemory {
     }
 
     // Makes one call.
-    pub fn step(&mut self, stage: Stage, transform: TransformKind, call: &Call) -> (Stage, Answer)
+    pub fn step(&mut self, stage: Stage, transform: TransformKind, call: &Call<&[u8]>) -> (Stage, Answer)
         requires { seated stage self.old ≡ true }
         ensures size { seated result.0 self.new ≡ true }
         ensures made { Made transform stage (held_by self.old) (call_of call.now) result.0 (held_by self.new) result.1 }

@@ -6,7 +6,8 @@ use Rattle.records.specs.Shown.{refusal_text}
 use Rattle.calls.specs.declared.answers.Answer.{Answer}
 use Rattle.calls.specs.declared.answers.Answer.TheVariants.{Opened, Delivered, Closed, Sample, Age, Refused, OutOfTurn}
 use Rattle.calls.specs.Faults.{picture_refusal}
-use Rattle.calls.specs.Runs.{Calling, asking_age, asking_sample, closing, delivering, opening}
+use Rattle.calls.specs.Runs.{Calling}
+use Rattle.calls.specs.declared.answers.Call.TheVariants.{Age as asking_age, Sample as asking_sample, Close as closing, Deliver as delivering, Open as opening}
 use Rattle.script.specs.declared.line.Mistake.{Mistake}
 use Rattle.script.specs.declared.line.Mistake.TheVariants as mistake
 use Rattle.transcripts.specs.declared.answers.Word.{Word}

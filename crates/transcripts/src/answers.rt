@@ -21,10 +21,10 @@ pub enum Word {
 }
 
 // The word that the answer to a call begins with.
-impl From<&Call<'_>> for Word {
+impl From<&Call<&[u8]>> for Word {
     ghost from_gives = { λ call word. word ≡ word_for (call_of call.now) };
 
-    fn from(call: &Call) -> Word {
+    fn from(call: &Call<&[u8]>) -> Word {
         match call {
             Call::Open { .. } => Word::Open,
             Call::Deliver { .. } => Word::Deliver,

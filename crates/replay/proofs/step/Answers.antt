@@ -1,6 +1,7 @@
 use Rattle.std.proofs.Common.{◌≡◌, refl, ap, rules}
 use Rattle.calls.specs.declared.answers.Answer.TheVariants.{Delivered}
-use Rattle.calls.specs.Runs.{call_of, delivering}
+use Rattle.calls.specs.Runs.{call_of}
+use Rattle.calls.specs.declared.answers.Call.TheVariants.{Deliver as delivering}
 use Rattle.replay.specs.declared.Stage.TheVariants.{Open}
 use Rattle.reel.specs.Memories.{held_in}
 use Rattle.replay.proofs.Turns.{answer_by, turn_deliver, turn_from, unwritten}
