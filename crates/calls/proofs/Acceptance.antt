@@ -9,8 +9,8 @@ use Rattle.calls.specs.declared.answers.Answer.TheVariants.{Opened, Delivered, C
 use Rattle.calls.specs.declared.faults.PictureFault.{PictureFault}
 use Rattle.calls.specs.Held.{Held, fits_rest, fits_store, fits_table}
 use Rattle.calls.specs.Questions.{judge_age, judge_closing, judge_delivery, judge_opening, judge_sample}
-use Rattle.calls.specs.Laws.{AcceptedAlike, Book, FitAlike, blank, but_value, granted, log, noted, read_off}
-use Rattle.calls.specs.Runs.{Calling, Contents, Control, Setting, State, after, all_fit, answer, control, delivered, finish, moved, new, onward, open_to, replies, resting, setting_of, step, told, unmarked, when_read}
+use Rattle.calls.specs.Laws.{AcceptedAlike, Book, FitAlike, empty_book, but_value, granted, log, noted, read_off}
+use Rattle.calls.specs.Runs.{Calling, Contents, Control, Setting, State, after, all_fit, answer, control, delivered, finish, if_accepted, new, onward, open_to, replies, resting, setting_of, step, answer_or_refusal, unmarked, when_read}
 use Rattle.calls.specs.declared.answers.Call.TheVariants.{Open as opening, Deliver as delivering, Close as closing, Sample as asking_sample, Age as asking_age}
 
 -- whether a call is accepted does not rest on a value
@@ -27,14 +27,14 @@ granted_same : (a b : Answer) → but_value a ≡ but_value b → granted a ≡ 
 granted_same a b e = sym (granted_is a) ∙ (ap granted e ∙ granted_is b)
 
 -- what one judgement makes of two answers, and of the accepted segments of two memories
-told_alike : (j : Result (Unit {0}) PictureFault) (a b : Answer) → but_value a ≡ but_value b → but_value (told j a) ≡ but_value (told j b)
-told_alike (Ok u) a b e = e
-told_alike (Err f) a b e = refl
+answer_alike : (j : Result (Unit {0}) PictureFault) (a b : Answer) → but_value a ≡ but_value b → but_value (answer_or_refusal j a) ≡ but_value (answer_or_refusal j b)
+answer_alike (Ok u) a b e = e
+answer_alike (Err f) a b e = refl
 
-moved_alike : (j : Result (Unit {0}) PictureFault) (M N O P : Contents) → M.accepted ≡ N.accepted → O.accepted ≡ P.accepted
-    → (moved j M O).accepted ≡ (moved j N P).accepted
-moved_alike (Ok u) M N O P e g = e
-moved_alike (Err f) M N O P e g = g
+if_accepted_alike : (j : Result (Unit {0}) PictureFault) (M N O P : Contents) → M.accepted ≡ N.accepted → O.accepted ≡ P.accepted
+    → (if_accepted j M O).accepted ≡ (if_accepted j N P).accepted
+if_accepted_alike (Ok u) M N O P e g = e
+if_accepted_alike (Err f) M N O P e g = g
 
 read_alike : (w v : Setting) (rounding : Rounding) (layout segment : ℕ) (j : Result (List Macroblock) PictureFault) (M N : Contents)
     → M.accepted ≡ N.accepted → (when_read w rounding layout segment j M).accepted ≡ (when_read v rounding layout segment j N).accepted
@@ -66,14 +66,14 @@ module _ (format : Format) (meaning other : List ℤ → ℕ → ℕ → ℤ) (s
       record {
         answered = refl;
         controlled = refl;
-        accepted = moved_alike (judge_opening (all_fit w) format n f kind rounding layout) (unmarked M.held) (unmarked N.held) M N refl e;
+        accepted = if_accepted_alike (judge_opening (all_fit w) format n f kind rounding layout) (unmarked M.held) (unmarked N.held) M N refl e;
       }
   step_alike (control n f resting) M N e (delivering segment bytes) = record { answered = refl; controlled = refl; accepted = e }
   step_alike (control n f resting) M N e closing = record { answered = refl; controlled = refl; accepted = e }
   step_alike (control n f resting) M N e (asking_sample p x y) =
-      record { answered = told_alike (judge_sample store format f p x y) _ _ refl; controlled = refl; accepted = e }
+      record { answered = answer_alike (judge_sample store format f p x y) _ _ refl; controlled = refl; accepted = e }
   step_alike (control n f resting) M N e (asking_age c r) =
-      record { answered = told_alike (judge_age ages format f c r) _ _ refl; controlled = refl; accepted = e }
+      record { answered = answer_alike (judge_age ages format f c r) _ _ refl; controlled = refl; accepted = e }
   step_alike (control n f (open_to k rd l)) M N e (opening kind rounding layout) = record { answered = refl; controlled = refl; accepted = e }
   step_alike (control n f (open_to k rd l)) M N e (delivering segment bytes) =
       record {
@@ -85,14 +85,14 @@ module _ (format : Format) (meaning other : List ℤ → ℕ → ℕ → ℤ) (s
       }
   step_alike (control n f (open_to k rd l)) M N e closing =
       record {
-        answered = ap (λ bits. but_value (told (judge_closing (all_fit w)) (Closed bits))) e;
+        answered = ap (λ bits. but_value (answer_or_refusal (judge_closing (all_fit w)) (Closed bits))) e;
         controlled = refl;
-        accepted = moved_alike (judge_closing (all_fit w)) (finish format k l M) (finish format k l N) M N refl e;
+        accepted = if_accepted_alike (judge_closing (all_fit w)) (finish format k l M) (finish format k l N) M N refl e;
       }
   step_alike (control n f (open_to k rd l)) M N e (asking_sample p x y) =
-      record { answered = told_alike (judge_sample store format f p x y) _ _ refl; controlled = refl; accepted = e }
+      record { answered = answer_alike (judge_sample store format f p x y) _ _ refl; controlled = refl; accepted = e }
   step_alike (control n f (open_to k rd l)) M N e (asking_age c r) =
-      record { answered = told_alike (judge_age ages format f c r) _ _ refl; controlled = refl; accepted = e }
+      record { answered = answer_alike (judge_age ages format f c r) _ _ refl; controlled = refl; accepted = e }
 
   record RunAlike (R S : State) (cs : List Calling) : Type 0 where
     answers : map but_value (replies w R cs) ≡ map but_value (replies v S cs)
@@ -103,7 +103,7 @@ module _ (format : Format) (meaning other : List ℤ → ℕ → ℕ → ℤ) (s
       → RunAlike (step w (reel C M) c) (step v (reel C N) c) cs → RunAlike (reel C M) (reel C N) (c ∷ cs)
   then_alike C M N c cs s later =
       record {
-        answers = ap (λ a. a ∷ map but_value (replies w (step w (reel C M) c) cs)) s.answered ∙ ap (λ told. but_value (answer v C N c) ∷ told) later.answers;
+        answers = ap (λ a. a ∷ map but_value (replies w (step w (reel C M) c) cs)) s.answered ∙ ap (λ heard. but_value (answer v C N c) ∷ heard) later.answers;
         book = λ b.
             ap (λ yes. read_off format (cond yes (noted format b c) b) (log w (step w (reel C M) c) cs))
             (granted_same (answer w C M c) (answer v C N c) s.answered)
@@ -119,7 +119,7 @@ module _ (format : Format) (meaning other : List ℤ → ℕ → ℕ → ℤ) (s
       (run_alike (onward w C c) (after w C M c) (after v C N c) s.accepted cs))
 
   begun_alike : (h i : Held) (cs : List Calling) → AcceptedAlike w v h i cs
-  begun_alike h i cs = record { answers = r.answers; counted = ap (λ b. b.closed_ones) (r.book blank) }
+  begun_alike h i cs = record { answers = r.answers; counts = ap (λ b. b.closed_ones) (r.book empty_book) }
     where
       r : RunAlike (new h) (new i) cs
       r = run_alike (control 0 None resting) (unmarked h) (unmarked i) refl cs

@@ -17,7 +17,7 @@ use Rattle.records.proofs.Wholes.{all_there}
 use Rattle.calls.specs.declared.faults.PictureFault.{PictureFault}
 use Rattle.calls.specs.Questions.{in_grid, judge_delivery}
 use Rattle.calls.specs.Effects.{age_at, fill_age, fill_sample, segment_rebuilt}
-use Rattle.calls.specs.Laws.{coded_intra, in_picture, row_of}
+use Rattle.calls.specs.Laws.{coded_intra, in_picture, macroblock_row}
 use Rattle.calls.specs.Runs.{Contents, Setting, all_fit, finish, taken, unmarked, when_read}
 use Rattle.calls.proofs.Bits.{other_bit, set_bit, zero_bit}
 use Rattle.calls.proofs.Pointwise.{SameSources, closed_age, closed_sample, coded_intra_lem, kept_sample, made_age, own_sample}
@@ -30,13 +30,13 @@ In P None row = ⊥
 In P (Some layout) row = P (segment_of layout row)
 
 pub record FinishedAlike (P : ℕ → Type 0) (format : Format) (f : Option ℕ) (M N : Contents) : Type 0 where
-  pub samples : (p x y : ℕ) → in_picture format p x y ≡ true → In P f (row_of p y) → M.held.finished.sample p x y ≡ N.held.finished.sample p x y
+  pub samples : (p x y : ℕ) → in_picture format p x y ≡ true → In P f (macroblock_row p y) → M.held.finished.sample p x y ≡ N.held.finished.sample p x y
   pub ages : (c r : ℕ) → in_grid format c r ≡ true → In P f r → age_at format M.held.finished_ages c r ≡ age_at format N.held.finished_ages c r
 
 pub record WorkingAlike (P : ℕ → Type 0) (format : Format) (layout : ℕ) (M N : Contents) : Type 0 where
   pub accepted : (j : ℕ) → P j → has_bit M.accepted j ≡ has_bit N.accepted j
-  pub samples : (p x y : ℕ) → in_picture format p x y ≡ true → P (segment_of layout (row_of p y))
-      → has_bit M.accepted (segment_of layout (row_of p y)) ≡ true → M.held.working.sample p x y ≡ N.held.working.sample p x y
+  pub samples : (p x y : ℕ) → in_picture format p x y ≡ true → P (segment_of layout (macroblock_row p y))
+      → has_bit M.accepted (segment_of layout (macroblock_row p y)) ≡ true → M.held.working.sample p x y ≡ N.held.working.sample p x y
   pub ages : (c r : ℕ) → in_grid format c r ≡ true → P (segment_of layout r)
       → has_bit M.accepted (segment_of layout r) ≡ true → age_at format M.held.working_ages c r ≡ age_at format N.held.working_ages c r
 
@@ -82,11 +82,11 @@ module _ (P : ℕ → Type 0) (w : Setting) where
 
   -- what stands in for samples and ages that were not delivered
   same_fill : (kind : PictureKind) (f : Option ℕ) (layout : ℕ) (M N : Contents) → Source P format kind f layout M N
-      → (p x y : ℕ) → in_picture format p x y ≡ true → P (segment_of layout (row_of p y))
+      → (p x y : ℕ) → in_picture format p x y ≡ true → P (segment_of layout (macroblock_row p y))
       → fill_sample kind M.held.finished p x y ≡ fill_sample kind N.held.finished p x y
   same_fill picture.Intra f layout M N so p x y i s = refl
   same_fill picture.Inter f layout M N (inl z) p x y i s = absurd (let z : ◌≡◌ {A = ℕ} 0 1 = cc in omega arith)
-  same_fill picture.Inter f layout M N (inr h) p x y i s = h.1.samples p x y i (subst (λ g. In P g (row_of p y)) (sym h.0) s)
+  same_fill picture.Inter f layout M N (inr h) p x y i s = h.1.samples p x y i (subst (λ g. In P g (macroblock_row p y)) (sym h.0) s)
 
   same_fill_age : (kind : PictureKind) (f : Option ℕ) (layout : ℕ) (M N : Contents) → Source P format kind f layout M N
       → (c r : ℕ) → in_grid format c r ≡ true → P (segment_of layout r)
@@ -101,7 +101,7 @@ module _ (P : ℕ → Type 0) (w : Setting) where
       own : Source P format kind f layout M N → SameSources format layout segment ms M.held N.held
       own (inl z) = inl (all_intra _ format kind layout segment bytes ms t z)
       own (inr h) =
-          inr (λ p x y i e. h.1.samples p x y i (subst (λ g. In P g (row_of p y)) (sym h.0) (subst P (sym (eqb-true _ _ e)) q)))
+          inr (λ p x y i e. h.1.samples p x y i (subst (λ g. In P g (macroblock_row p y)) (sym h.0) (subst P (sym (eqb-true _ _ e)) q)))
 
       same_next : Source P format kind f layout M N → (c r : ℕ) → in_grid format c r ≡ true → eqb (segment_of layout r) segment ≡ true
           → next_age (coded_intra format layout segment ms c r) (age_at format M.held.finished_ages c r)
@@ -116,7 +116,7 @@ module _ (P : ℕ → Type 0) (w : Setting) where
       both_taken so al =
           record {
             accepted = λ j s. set_bit M.accepted segment j ∙ (ap (cond (eqb j segment) true) (al.accepted j s) ∙ sym (set_bit N.accepted segment j));
-            samples = λ p x y i s e. sample p x y i s e (eqb (segment_of layout (row_of p y)) segment) refl;
+            samples = λ p x y i s e. sample p x y i s e (eqb (segment_of layout (macroblock_row p y)) segment) refl;
             ages = λ c r i s e.
                 made_age format w.meaning layout segment rounding ms there M.held z c r i
                 ∙ picked (eqb (segment_of layout r) segment) (has_bit M.accepted (segment_of layout r)) _ _ _ _
@@ -133,9 +133,9 @@ module _ (P : ℕ → Type 0) (w : Setting) where
           z' : Sized format N.held
           z' = sized w N b t.fits
 
-          sample : (p x y : ℕ) → in_picture format p x y ≡ true → P (segment_of layout (row_of p y))
-              → has_bit (bit_or M.accepted (2 ^ segment)) (segment_of layout (row_of p y)) ≡ true
-              → (u : Bool) → eqb (segment_of layout (row_of p y)) segment ≡ u
+          sample : (p x y : ℕ) → in_picture format p x y ≡ true → P (segment_of layout (macroblock_row p y))
+              → has_bit (bit_or M.accepted (2 ^ segment)) (segment_of layout (macroblock_row p y)) ≡ true
+              → (u : Bool) → eqb (segment_of layout (macroblock_row p y)) segment ≡ u
               → (taken w rounding layout segment ms M).held.working.sample p x y ≡ (taken w rounding layout segment ms N).held.working.sample p x y
           sample p x y i s e true u =
               own_sample format w.meaning layout segment rounding ms there M.held N.held z z' t.segments (own so) p x y i u

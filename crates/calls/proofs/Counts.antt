@@ -15,8 +15,8 @@ use Rattle.calls.specs.declared.faults.PictureFault.{PictureFault}
 use Rattle.calls.specs.Held.{Held}
 use Rattle.calls.specs.Questions.{in_grid, judge_age, judge_closing, judge_delivery, judge_opening, kind_of, rounding_from}
 use Rattle.calls.specs.Effects.{age_at, fill_age, segment_rebuilt}
-use Rattle.calls.specs.Laws.{Aged, Book, Coding, age_by, blank, coded_since, coded_intra, count, delivered_records, granted, is_intra_picture, log, noted, read_off}
-use Rattle.calls.specs.Runs.{Calling, Contents, Control, Setting, Stage, State, after, all_fit, answer, control, delivered, finish, finished_of, moved, new, onward, open_to, resting, run, setting_of, step, taken, told, unmarked, when_read}
+use Rattle.calls.specs.Laws.{Aged, Book, Coding, age_by, empty_book, coded_since, coded_intra, count, delivered_records, granted, is_intra_picture, log, noted, read_off}
+use Rattle.calls.specs.Runs.{Calling, Contents, Control, Setting, Stage, State, after, all_fit, answer, control, delivered, finish, finished_of, if_accepted, new, onward, open_to, resting, run, setting_of, step, taken, answer_or_refusal, unmarked, when_read}
 use Rattle.calls.specs.declared.answers.Call.TheVariants.{Open as opening, Deliver as delivering, Close as closing, Sample as asking_sample, Age as asking_age}
 use Rattle.calls.proofs.Alike.{Based, all_intra, all_read}
 use Rattle.calls.proofs.Bits.{set_bit, zero_bit}
@@ -134,9 +134,9 @@ module _ (w : Setting) where
 
   counted_opening : (n : ℕ) (f : Option ℕ) (M : Contents) (b : Book) (kind rounding layout : ℕ) → ClosedAges format f M b
       → (v : Result (Unit {0}) PictureFault) → judge_opening (all_fit w) format n f kind rounding layout ≡ v
-      → Counted format (moved v (control (n + 1) f (open_to (kind_of kind) (rounding_from rounding) layout)) (control n f resting))
-      (moved v (unmarked M.held) M)
-      (cond (granted (told v (Opened (segment_count format layout)))) (noted format b (opening kind rounding layout)) b)
+      → Counted format (if_accepted v (control (n + 1) f (open_to (kind_of kind) (rounding_from rounding) layout)) (control n f resting))
+      (if_accepted v (unmarked M.held) M)
+      (cond (granted (answer_or_refusal v (Opened (segment_count format layout)))) (noted format b (opening kind rounding layout)) b)
   counted_opening n f M b kind rounding layout h (Err x) e = (h, tt)
   counted_opening n f M b kind rounding layout h (Ok u) e = (
     same_closed f M (unmarked M.held) b (noted format b (opening kind rounding layout)) refl refl h,
@@ -201,8 +201,8 @@ module _ (w : Setting) where
 
   counted_closing : (n : ℕ) (f : Option ℕ) (k : PictureKind) (rd : Rounding) (l : ℕ) (M : Contents) (b : Book) → Agrees w M
       → ClosedAges format f M b → BookOpen format f M b k l → (v : Result (Unit {0}) PictureFault) → judge_closing (all_fit w) ≡ v
-      → Counted format (moved v (control n (Some l) resting) (control n f (open_to k rd l))) (moved v (finish format k l M) M)
-      (cond (granted (told v (Closed M.accepted))) (noted format b closing) b)
+      → Counted format (if_accepted v (control n (Some l) resting) (control n f (open_to k rd l))) (if_accepted v (finish format k l M) M)
+      (cond (granted (answer_or_refusal v (Closed M.accepted))) (noted format b closing) b)
   counted_closing n f k rd l M b a h o (Err x) e = (h, o)
   counted_closing n f k rd l M b a h o (Ok u) e = (
     λ c r i.
@@ -247,7 +247,7 @@ module _ (w : Setting) where
       let g : ClosedAges format (Some layout) M b = subst (λ x. ClosedAges format x M b) e h.0 in g
 
   told_age_lem : (f : Option ℕ) (M : Contents) (b : Book) → ClosedAges format f M b → (c r a : ℕ)
-      → (v : Result (Unit {0}) PictureFault) → judge_age w.ages_fit format f c r ≡ v → told v (Age (age_at format M.held.finished_ages c r)) ≡ Age a
+      → (v : Result (Unit {0}) PictureFault) → judge_age w.ages_fit format f c r ≡ v → answer_or_refusal v (Age (age_at format M.held.finished_ages c r)) ≡ Age a
       → a ≡ age_after (since c r b.closed_ones)
   told_age_lem f M b h c r a (Err q) e d = absurd (let z : ◌≡◌ {A = ℕ} 0 1 = cc in omega arith)
   told_age_lem None M b h c r a (Ok u) e d = absurd (false≢true (age_passed w.ages_fit format None c r u e).0)
@@ -261,13 +261,13 @@ module _ (w : Setting) where
   told_ages (control n f resting) M b h c r a e = told_age_lem f M b h.0 c r a (judge_age w.ages_fit format f c r) refl e
   told_ages (control n f (open_to k rd l)) M b h c r a e = told_age_lem f M b h.0 c r a (judge_age w.ages_fit format f c r) refl e
 
-pub counted : (format : Format) (meaning : List ℤ → ℕ → ℕ → ℤ) (h : Held) (cs : List Calling) → Aged (setting_of format meaning h) h cs
-counted format meaning h cs =
+pub ages_counted : (format : Format) (meaning : List ℤ → ℕ → ℕ → ℤ) (h : Held) (cs : List Calling) → Aged (setting_of format meaning h) h cs
+ages_counted format meaning h cs =
     let w = setting_of format meaning h in
     let R = run w (new h) cs in
-    let b = read_off format blank (log w (new h) cs) in
-    let t : Counted format R.state R.contents b = counted_run w (new h) blank cs refl (tt, tt) in
+    let b = read_off format empty_book (log w (new h) cs) in
+    let t : Counted format R.state R.contents b = counted_run w (new h) empty_book cs refl (tt, tt) in
     record {
       shown = λ c r i layout e. shown_ages w R.state R.contents b t layout e c r i ∙ age_is c r b.closed_ones;
-      told = λ c r a e. told_ages w R.state R.contents b t c r a e ∙ age_is c r b.closed_ones;
+      asked = λ c r a e. told_ages w R.state R.contents b t c r a e ∙ age_is c r b.closed_ones;
     }

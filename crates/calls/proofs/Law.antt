@@ -1,7 +1,7 @@
 -- The law over every run.
 use Rattle.calls.specs.Laws.{LawOverRuns}
 use Rattle.calls.proofs.Acceptance.{accepted_alike}
-use Rattle.calls.proofs.Counts.{counted}
+use Rattle.calls.proofs.Counts.{ages_counted}
 use Rattle.calls.proofs.Others.{isolated}
 use Rattle.calls.proofs.Twins.{afresh}
 
@@ -10,6 +10,6 @@ law format meaning =
     record {
       isolation = isolated format meaning;
       fresh_start = afresh format meaning;
-      ages = counted format meaning;
+      ages = ages_counted format meaning;
       acceptance = accepted_alike format meaning;
     }

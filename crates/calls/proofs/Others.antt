@@ -14,8 +14,8 @@ use Rattle.calls.specs.declared.faults.PictureFault.TheVariants as fault
 use Rattle.calls.specs.Held.{Held}
 use Rattle.calls.specs.Questions.{is_finished, judge_age, judge_closing, judge_opening, judge_sample, kind_of, rounding_from}
 use Rattle.calls.specs.Effects.{age_at}
-use Rattle.calls.specs.Laws.{Elsewhere, OthersUntouched, Own, Rewritten, SameElsewhere, SameToOthers, added, alike, kept, marks, omitted, over, own_age, own_delivery, own_sample, row_of}
-use Rattle.calls.specs.Runs.{Calling, Contents, Control, Setting, Stage, after, all_fit, answer, control, delivered, finish, finished_of, moved, new, onward, open_to, resting, setting_of, told, unmarked, when_read}
+use Rattle.calls.specs.Laws.{Elsewhere, OthersUntouched, Own, Rewritten, SameElsewhere, SameToOthers, added, alike, kept, marks, omitted, over, own_age, own_delivery, own_sample, macroblock_row}
+use Rattle.calls.specs.Runs.{Calling, Contents, Control, Setting, Stage, after, all_fit, answer, control, delivered, finish, finished_of, if_accepted, new, onward, open_to, resting, setting_of, answer_or_refusal, unmarked, when_read}
 use Rattle.calls.specs.declared.answers.Call.TheVariants.{Open as opening, Deliver as delivering, Close as closing, Sample as asking_sample, Age as asking_age}
 use Rattle.calls.proofs.Alike.{Based, FinishedAlike, In, WorkingAlike, all_read, both_deliver, judged, both_finish, keeps_finished, none_accepted, source}
 use Rattle.calls.proofs.Bits.{other_bit}
@@ -43,7 +43,7 @@ module _ (P : ℕ → Type 0) (format : Format) where
   working_back l M N h =
       record {
         accepted = λ j s. sym (h.accepted j s);
-        samples = λ p x y i s t. sym (h.samples p x y i s (h.accepted (segment_of l (row_of p y)) s ∙ t));
+        samples = λ p x y i s t. sym (h.samples p x y i s (h.accepted (segment_of l (macroblock_row p y)) s ∙ t));
         ages = λ c r i s t. sym (h.ages c r i s (h.accepted (segment_of l r) s ∙ t));
       }
 
@@ -125,8 +125,8 @@ module _ (w : Setting) (k : ℕ) where
 
   alike_opening : (n : ℕ) (f : Option ℕ) (M N : Contents) (kind rd l : ℕ) → FinishedAlike (But k) format f M N
       → (v : Result (Unit {0}) PictureFault) → judge_opening (all_fit w) format n f kind rd l ≡ v
-      → Alike k format (moved v (control (n + 1) f (open_to (kind_of kind) (rounding_from rd) l)) (control n f resting))
-      (moved v (unmarked M.held) M) (moved v (unmarked N.held) N)
+      → Alike k format (if_accepted v (control (n + 1) f (open_to (kind_of kind) (rounding_from rd) l)) (control n f resting))
+      (if_accepted v (unmarked M.held) M) (if_accepted v (unmarked N.held) N)
   alike_opening n f M N kind rd l h (Ok u) e = (
     record { samples = h.samples; ages = h.ages },
     (none_accepted (But k) w l M N, (opening_passed (all_fit w) format n f kind rd l u e).1),
@@ -136,9 +136,9 @@ module _ (w : Setting) (k : ℕ) where
   alike_closing : (n : ℕ) (f : Option ℕ) (kind : PictureKind) (rd : Rounding) (l : ℕ) (M N : Contents) → Agrees w M → Agrees w N
       → FinishedAlike (But k) format f M N → WorkingAlike (But k) format l M N → Based kind f l
       → (v : Result (Unit {0}) PictureFault) → judge_closing (all_fit w) ≡ v
-      → SameToOthers k f closing (told v (Closed M.accepted)) (told v (Closed N.accepted))
-      × Alike k format (moved v (control n (Some l) resting) (control n f (open_to kind rd l)))
-      (moved v (finish format kind l M) M) (moved v (finish format kind l N) N)
+      → SameToOthers k f closing (answer_or_refusal v (Closed M.accepted)) (answer_or_refusal v (Closed N.accepted))
+      × Alike k format (if_accepted v (control n (Some l) resting) (control n f (open_to kind rd l)))
+      (if_accepted v (finish format kind l M) M) (if_accepted v (finish format kind l N) N)
   alike_closing n f kind rd l M N a b h al s (Ok u) e = (
     marks al.accepted,
     (both_finish (But k) w kind f l M N a b (closing_passed (all_fit w) u e) (source (But k) format kind f l M N h s) al, tt),
@@ -152,18 +152,18 @@ module _ (w : Setting) (k : ℕ) where
 
   alike_sample : (f : Option ℕ) (M N : Contents) → FinishedAlike (But k) format f M N → (p x y : ℕ)
       → (v : Result (Unit {0}) PictureFault) → judge_sample w.store_fits format f p x y ≡ v
-      → SameToOthers k f (asking_sample p x y) (told v (Sample (M.held.finished.sample p x y))) (told v (Sample (N.held.finished.sample p x y)))
+      → SameToOthers k f (asking_sample p x y) (answer_or_refusal v (Sample (M.held.finished.sample p x y))) (answer_or_refusal v (Sample (N.held.finished.sample p x y)))
   alike_sample f M N h p x y (Err x') e = alike
-  alike_sample f M N h p x y (Ok u) e = go (own_or_else f (row_of p y) (sample_passed _ format f p x y u e).0)
+  alike_sample f M N h p x y (Ok u) e = go (own_or_else f (macroblock_row p y) (sample_passed _ format f p x y u e).0)
     where
-      go : Own k f (row_of p y) ⊎ In (But k) f (row_of p y)
+      go : Own k f (macroblock_row p y) ⊎ In (But k) f (macroblock_row p y)
           → SameToOthers k f (asking_sample p x y) (Sample (M.held.finished.sample p x y)) (Sample (N.held.finished.sample p x y))
       go (inl o) = own_sample o
       go (inr s) = same_alike f (ap Sample (h.samples p x y (sample_passed _ format f p x y u e).1 s))
 
   alike_age : (f : Option ℕ) (M N : Contents) → FinishedAlike (But k) format f M N → (c r : ℕ)
       → (v : Result (Unit {0}) PictureFault) → judge_age w.ages_fit format f c r ≡ v
-      → SameToOthers k f (asking_age c r) (told v (Age (age_at format M.held.finished_ages c r))) (told v (Age (age_at format N.held.finished_ages c r)))
+      → SameToOthers k f (asking_age c r) (answer_or_refusal v (Age (age_at format M.held.finished_ages c r))) (answer_or_refusal v (Age (age_at format N.held.finished_ages c r)))
   alike_age f M N h c r (Err x) e = alike
   alike_age f M N h c r (Ok u) e = go (own_or_else f r (age_passed _ format f c r u e).0)
     where
@@ -195,7 +195,7 @@ module _ (w : Setting) (k : ℕ) where
   same_shown (control n f s) M N h =
       record {
         layouts = refl;
-        samples = λ p x y i e. h.0.samples p x y i (elsewhere_in f (row_of p y) e);
+        samples = λ p x y i e. h.0.samples p x y i (elsewhere_in f (macroblock_row p y) e);
         ages = λ c r i e. h.0.ages c r i (elsewhere_in f r e);
       }
 

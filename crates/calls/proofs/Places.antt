@@ -12,7 +12,7 @@ use Rattle.deblocking.proofs.Edges.{by_side}
 use Rattle.rebuild.specs.Rebuilt.{count_of, first_cell, set_from}
 use Rattle.rebuild.proofs.Cells.{rows_join}
 use Rattle.calls.specs.Held.{cells_of}
-use Rattle.calls.specs.Laws.{in_picture, row_of}
+use Rattle.calls.specs.Laws.{in_picture, macroblock_row}
 use Rattle.calls.specs.Questions.{in_grid}
 use Rattle.calls.proofs.Sizes.{cells_fit}
 use Rattle.calls.proofs.Tables.{set_after, set_before, set_own}
@@ -28,7 +28,7 @@ below_row p y b = by_side (λ s. ltb y (b * s) ≡ ltb (y / s) b) p (grind (arit
 from_row : (p y a : ℕ) → leb (a * side p) y ≡ leb a (y / side p)
 from_row p y a = by_side (λ s. leb (a * s) y ≡ leb a (y / s)) p (grind (arith, nat_tests)) (grind (arith, nat_tests))
 
-pub row_below : (format : Format) (p x y : ℕ) → in_picture format p x y ≡ true → row_of p y < rows_of format
+pub row_below : (format : Format) (p x y : ℕ) → in_picture format p x y ≡ true → macroblock_row p y < rows_of format
 unfolding inside
 row_below format p x y i =
     let a = and_parts (ltb p 3) _ i in
@@ -36,14 +36,14 @@ row_below format p x y i =
     ltb-true _ _ (sym (below_row p y (rows_of format)) ∙ b.1)
 
 -- a segment's places are those whose row is the segment's
-pub covers_is : (format : Format) (l k p x y : ℕ) → in_picture format p x y ≡ true → covers (segment_at format l k) p x y ≡ eqb (segment_of l (row_of p y)) k
+pub covers_is : (format : Format) (l k p x y : ℕ) → in_picture format p x y ≡ true → covers (segment_at format l k) p x y ≡ eqb (segment_of l (macroblock_row p y)) k
 unfolding covers inside
 covers_is format l k p x y i =
     let a = and_parts (ltb p 3) _ i in
     let b = and_parts (ltb x (columns_of format * side p)) (ltb y (rows_of format * side p)) a.1 in
     let z : leb (0 * side p) x ≡ true = from_row p x 0 ∙ le-leb 0 _ (omega arith) in
     simp (z, b.0, from_row p y (first_row format l k), below_row p y (first_row format l (suc k)))
-    (sym ((segmented format l).between k (row_of p y) (row_below format p x y i)))
+    (sym ((segmented format l).between k (macroblock_row p y) (row_below format p x y i)))
 
 -- and the picture's, in its planes
 pub covered_inside : (format : Format) (l k p x y : ℕ) → ltb p 3 ≡ true → covers (segment_at format l k) p x y ≡ true → in_picture format p x y ≡ true
@@ -52,8 +52,8 @@ covered_inside format l k p x y e c =
     let a = and_parts (leb (0 * side p) x) _ c in
     let b = and_parts (ltb x (columns_of format * side p)) _ a.1 in
     let d = and_parts (leb (first_row format l k * side p) y) _ b.1 in
-    let t : row_of p y < first_row format l (suc k) = ltb-true _ _ (sym (below_row p y (first_row format l (suc k))) ∙ d.1) in
-    let u : row_of p y < rows_of format = omega (arith, (segmented format l).in_picture k) in
+    let t : macroblock_row p y < first_row format l (suc k) = ltb-true _ _ (sym (below_row p y (first_row format l (suc k))) ∙ d.1) in
+    let u : macroblock_row p y < rows_of format = omega (arith, (segmented format l).in_picture k) in
     and_from _ _ e (and_from _ _ b.0 (below_row p y (rows_of format) ∙ lt-ltb _ _ u))
 
 pub plane_says : (format : Format) (p x y : ℕ) → in_picture format p x y ≡ true → ltb p 3 ≡ true

@@ -27,7 +27,7 @@ use Rattle.rebuild.proofs.Independence.{intra_samples, own_samples}
 use Rattle.calls.specs.Held.{Held}
 use Rattle.calls.specs.Questions.{in_grid}
 use Rattle.calls.specs.Effects.{age_at, fill_age, fill_sample, filled_picture, missing, picture_closed, segment_rebuilt}
-use Rattle.calls.specs.Laws.{coded_intra, in_picture, row_of}
+use Rattle.calls.specs.Laws.{coded_intra, in_picture, macroblock_row}
 use Rattle.calls.proofs.Places.{cell_in, covered_inside, covers_is, grid_says, plane_says, row_first, row_last, set_cell}
 use Rattle.calls.proofs.Sizes.{Sized, some_column}
 use Rattle.calls.proofs.Tables.{age_at_lem, filled_at}
@@ -67,7 +67,7 @@ coded_intra_lem format l k records intra c r i e = intra _ (record_below format 
 abbrev pub SameSources : Format → ℕ → ℕ → List Macroblock → Held → Held → Type 0
 SameSources format l k records h i =
     ((j : ℕ) → j < count_of (segment_at format l k) → intra_at records j ≡ true)
-    ⊎ ((p x y : ℕ) → in_picture format p x y ≡ true → eqb (segment_of l (row_of p y)) k ≡ true → h.finished.sample p x y ≡ i.finished.sample p x y)
+    ⊎ ((p x y : ℕ) → in_picture format p x y ≡ true → eqb (segment_of l (macroblock_row p y)) k ≡ true → h.finished.sample p x y ≡ i.finished.sample p x y)
 
 module _ (format : Format) (meaning : List ℤ → ℕ → ℕ → ℤ) (l k : ℕ) (rounding : Rounding) (records : List Macroblock) (all : length records ≡ count_of (segment_at format l k)) where
   abbrev s : Segment
@@ -101,7 +101,7 @@ module _ (format : Format) (meaning : List ℤ → ℕ → ℕ → ℤ) (l k : �
       ∙ own_age h c r i (eqb (segment_of l r) k) refl
 
   -- it changes no sample of another segment
-  pub kept_sample : (h : Held) (p x y : ℕ) → in_picture format p x y ≡ true → eqb (segment_of l (row_of p y)) k ≡ false
+  pub kept_sample : (h : Held) (p x y : ℕ) → in_picture format p x y ≡ true → eqb (segment_of l (macroblock_row p y)) k ≡ false
       → (made h).working.sample p x y ≡ h.working.sample p x y
   unfolding segment_rebuilt
   kept_sample h p x y i e =
@@ -141,7 +141,7 @@ module _ (format : Format) (meaning : List ℤ → ℕ → ℕ → ℤ) (l k : �
         ∙ same_new agree p x y e c
         ∙ sym (cond-true _ _ _ (and_from _ _ (sized_has format i.working p x y z'.working_wide z'.working_high n) c))
 
-    pub own_sample : (p x y : ℕ) → in_picture format p x y ≡ true → eqb (segment_of l (row_of p y)) k ≡ true
+    pub own_sample : (p x y : ℕ) → in_picture format p x y ≡ true → eqb (segment_of l (macroblock_row p y)) k ≡ true
         → (made h).working.sample p x y ≡ (made i).working.sample p x y
     unfolding segment_rebuilt
     own_sample p x y n e =
@@ -160,12 +160,12 @@ not_cond false x y = refl
 module _ (format : Format) (kind : PictureKind) (l accepted : ℕ) (h : Held) (z : Sized format h) where
   pub closed_sample : (p x y : ℕ) → in_picture format p x y ≡ true
       → (picture_closed format kind l accepted h).finished.sample p x y
-      ≡ cond (has_bit accepted (segment_of l (row_of p y))) (h.working.sample p x y) (fill_sample kind h.finished p x y)
+      ≡ cond (has_bit accepted (segment_of l (macroblock_row p y))) (h.working.sample p x y) (fill_sample kind h.finished p x y)
   unfolding picture_closed filled_picture missing
   closed_sample p x y i =
-      ap (λ b. cond (b && not (has_bit accepted (segment_of l (row_of p y)))) (fill_sample kind h.finished p x y) (h.working.sample p x y))
+      ap (λ b. cond (b && not (has_bit accepted (segment_of l (macroblock_row p y)))) (fill_sample kind h.finished p x y) (h.working.sample p x y))
       (sized_has format h.working p x y z.working_wide z.working_high i)
-      ∙ not_cond (has_bit accepted (segment_of l (row_of p y))) _ _
+      ∙ not_cond (has_bit accepted (segment_of l (macroblock_row p y))) _ _
 
   pub closed_age : (c r : ℕ) → in_grid format c r ≡ true
       → age_at format (picture_closed format kind l accepted h).finished_ages c r

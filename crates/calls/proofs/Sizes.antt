@@ -20,7 +20,7 @@ use Rattle.calls.specs.declared.faults.PictureFault.{PictureFault}
 use Rattle.calls.specs.Held.{Held, cells_of, fits, fits_store, fits_table}
 use Rattle.calls.specs.Questions.{judge_closing, judge_delivery, judge_opening}
 use Rattle.calls.specs.Effects.{filled_picture, picture_closed, segment_rebuilt}
-use Rattle.calls.specs.Runs.{Calling, Contents, Control, Setting, State, after, all_fit, control, finish, moved, open_to, resting, run, setting_of, step, unmarked, when_read}
+use Rattle.calls.specs.Runs.{Calling, Contents, Control, Setting, State, after, all_fit, control, finish, if_accepted, open_to, resting, run, setting_of, step, unmarked, when_read}
 use Rattle.calls.specs.declared.answers.Call.TheVariants.{Open as opening, Deliver as delivering, Close as closing, Sample as asking_sample, Age as asking_age}
 use Rattle.calls.proofs.Tables.{filled_length, set_length}
 use Rattle.calls.proofs.Verdicts.{closing_passed, delivery_passed}
@@ -134,7 +134,7 @@ closed_sized format kind layout accepted h s =
     }
 
 module _ (w : Setting) where
-  opened_same : (M : Contents) → Agrees w M → (v : Result (Unit {0}) PictureFault) → Agrees w (moved v (unmarked M.held) M)
+  opened_same : (M : Contents) → Agrees w M → (v : Result (Unit {0}) PictureFault) → Agrees w (if_accepted v (unmarked M.held) M)
   opened_same M e (Ok u) = e
   opened_same M e (Err f) = e
 
@@ -148,7 +148,7 @@ module _ (w : Setting) where
       t.fits
 
   closed_same : (M : Contents) → Agrees w M → (kind : PictureKind) (l : ℕ) (v : Result (Unit {0}) PictureFault) → judge_closing (all_fit w) ≡ v
-      → Agrees w (moved v (finish w.format kind l M) M)
+      → Agrees w (if_accepted v (finish w.format kind l M) M)
   closed_same M e kind l (Err f) j = e
   closed_same M e kind l (Ok u) j =
       let a = closing_passed (all_fit w) u j in

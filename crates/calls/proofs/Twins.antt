@@ -15,8 +15,8 @@ use Rattle.calls.specs.declared.faults.PictureFault.{PictureFault}
 use Rattle.calls.specs.declared.faults.PictureFault.TheVariants as fault
 use Rattle.calls.specs.Held.{Held}
 use Rattle.calls.specs.Questions.{is_finished, judge_age, judge_closing, judge_delivery, judge_opening, judge_sample, kind_of, rounding_from}
-use Rattle.calls.specs.Laws.{Limited, SamePicture, SameUntilLimit, WithoutClosing, row_of}
-use Rattle.calls.specs.Runs.{Calling, Contents, Control, Setting, Stage, State, after, all_fit, answer, control, delivered, finish, moved, new, onward, open_to, reply, resting, run, setting_of, step, told, told_age, told_sample, unmarked, when_read}
+use Rattle.calls.specs.Laws.{Limited, SamePicture, SameUntilLimit, WithoutClosing, macroblock_row}
+use Rattle.calls.specs.Runs.{Calling, Contents, Control, Setting, Stage, State, after, all_fit, answer, control, delivered, finish, if_accepted, new, onward, open_to, reply, resting, run, setting_of, step, answer_or_refusal, age_answer, sample_answer, unmarked, when_read}
 use Rattle.calls.specs.declared.answers.Call.TheVariants.{Open as opening, Deliver as delivering, Close as closing, Sample as asking_sample, Age as asking_age}
 use Rattle.calls.proofs.Alike.{Based, FinishedAlike, In, WorkingAlike, both_deliver, both_finish, judged, keeps_finished, none_accepted, source}
 use Rattle.calls.proofs.Sizes.{Agrees, one_setting, run_agrees, same_setting}
@@ -42,17 +42,17 @@ data First (format : Format) : Control → Control → Contents → Contents →
 
 -- openings are judged alike but for the limit
 limit : (u t t' : Bool) (rest : Result (Unit {0}) PictureFault) (a : Answer)
-    → Limited (told (ask u fault.Size (ask t fault.Limit rest)) a)
-    ⊎ (Limited (told (ask u fault.Size (ask t' fault.Limit rest)) a)
+    → Limited (answer_or_refusal (ask u fault.Size (ask t fault.Limit rest)) a)
+    ⊎ (Limited (answer_or_refusal (ask u fault.Size (ask t' fault.Limit rest)) a)
     ⊎ (ask u fault.Size (ask t fault.Limit rest) ≡ ask u fault.Size (ask t' fault.Limit rest)))
 limit false t t' rest a = inr (inr refl)
 limit true false t' rest a = inl refl
 limit true true false rest a = inr (inl refl)
 limit true true true rest a = inr (inr refl)
 
-told_same : (v : Result (Unit {0}) PictureFault) (a b : Answer) → ((u : Unit {0}) → v ≡ Ok u → a ≡ b) → told v a ≡ told v b
-told_same (Ok u) a b h = h u refl
-told_same (Err f) a b h = refl
+answer_same : (v : Result (Unit {0}) PictureFault) (a b : Answer) → ((u : Unit {0}) → v ≡ Ok u → a ≡ b) → answer_or_refusal v a ≡ answer_or_refusal v b
+answer_same (Ok u) a b h = h u refl
+answer_same (Err f) a b h = refl
 
 shown : (f : Option ℕ) (row : ℕ) → is_finished f ≡ true → In All f row
 shown None row e = false≢true e
@@ -62,14 +62,14 @@ module _ (w : Setting) where
   abbrev format : Format
   format = w.format
 
-  same_sample : (f : Option ℕ) (M N : Contents) → FinishedAlike All format f M N → (p x y : ℕ) → told_sample w f M p x y ≡ told_sample w f N p x y
+  same_sample : (f : Option ℕ) (M N : Contents) → FinishedAlike All format f M N → (p x y : ℕ) → sample_answer w f M p x y ≡ sample_answer w f N p x y
   same_sample f M N h p x y =
-      told_same (judge_sample w.store_fits format f p x y) _ _
-      (λ u e. let t = sample_passed _ format f p x y u e in ap Sample (h.samples p x y t.1 (shown f (row_of p y) t.0)))
+      answer_same (judge_sample w.store_fits format f p x y) _ _
+      (λ u e. let t = sample_passed _ format f p x y u e in ap Sample (h.samples p x y t.1 (shown f (macroblock_row p y) t.0)))
 
-  same_age : (f : Option ℕ) (M N : Contents) → FinishedAlike All format f M N → (c r : ℕ) → told_age w f M c r ≡ told_age w f N c r
+  same_age : (f : Option ℕ) (M N : Contents) → FinishedAlike All format f M N → (c r : ℕ) → age_answer w f M c r ≡ age_answer w f N c r
   same_age f M N h c r =
-      told_same (judge_age w.ages_fit format f c r) _ _
+      answer_same (judge_age w.ages_fit format f c r) _ _
       (λ u e. let t = age_passed _ format f c r u e in ap Age (h.ages c r t.1 (shown f r t.0)))
 
   same_accepted : (kind : PictureKind) (rd : Rounding) (l segment : ℕ) (bytes : List ℕ) (M N : Contents) → M.accepted ≡ N.accepted
@@ -94,15 +94,15 @@ module _ (w : Setting) where
 
   twin_opening : (n m : ℕ) (f : Option ℕ) (M N : Contents) (kind rd l : ℕ) → is_finished f ≡ true → FinishedAlike All format f M N
       → (u v : Result (Unit {0}) PictureFault) → judge_opening (all_fit w) format n f kind rd l ≡ u → u ≡ v
-      → (told u (Opened (segment_count format l)) ≡ told v (Opened (segment_count format l)))
-      × Twin format (moved u (control (n + 1) f (open_to (kind_of kind) (rounding_from rd) l)) (control n f resting))
-      (moved v (control (m + 1) f (open_to (kind_of kind) (rounding_from rd) l)) (control m f resting))
-      (moved u (unmarked M.held) M) (moved v (unmarked N.held) N)
+      → (answer_or_refusal u (Opened (segment_count format l)) ≡ answer_or_refusal v (Opened (segment_count format l)))
+      × Twin format (if_accepted u (control (n + 1) f (open_to (kind_of kind) (rounding_from rd) l)) (control n f resting))
+      (if_accepted v (control (m + 1) f (open_to (kind_of kind) (rounding_from rd) l)) (control m f resting))
+      (if_accepted u (unmarked M.held) M) (if_accepted v (unmarked N.held) N)
   twin_opening n m f M N kind rd l o h (Ok u) (Ok v) e g = (
     refl,
     twin o (record { samples = h.samples; ages = h.ages }) (none_accepted All w l M N, (opening_passed (all_fit w) format n f kind rd l u e).1, refl),
   )
-  twin_opening n m f M N kind rd l o h (Err q) (Err r) e g = (ap (λ v. told v (Opened (segment_count format l))) g, twin o h tt)
+  twin_opening n m f M N kind rd l o h (Err q) (Err r) e g = (ap (λ v. answer_or_refusal v (Opened (segment_count format l))) g, twin o h tt)
   twin_opening n m f M N kind rd l o h (Ok u) (Err r) e g = absurd (let z : ◌≡◌ {A = ℕ} 0 1 = cc in omega arith)
   twin_opening n m f M N kind rd l o h (Err q) (Ok v) e g = absurd (let z : ◌≡◌ {A = ℕ} 0 1 = cc in omega arith)
 
@@ -120,14 +120,14 @@ module _ (w : Setting) where
   twin_closing : (n m : ℕ) (f : Option ℕ) (kind : PictureKind) (rd : Rounding) (l : ℕ) (M N : Contents) → Agrees w M → Agrees w N → is_finished f ≡ true
       → FinishedAlike All format f M N → WorkingAlike All format l M N → Based kind f l → M.accepted ≡ N.accepted
       → (v : Result (Unit {0}) PictureFault) → judge_closing (all_fit w) ≡ v
-      → Twin format (moved v (control n (Some l) resting) (control n f (open_to kind rd l))) (moved v (control m (Some l) resting) (control m f (open_to kind rd l)))
-      (moved v (finish format kind l M) M) (moved v (finish format kind l N) N)
+      → Twin format (if_accepted v (control n (Some l) resting) (control n f (open_to kind rd l))) (if_accepted v (control m (Some l) resting) (control m f (open_to kind rd l)))
+      (if_accepted v (finish format kind l M) M) (if_accepted v (finish format kind l N) N)
   twin_closing n m f kind rd l M N a b o h al s e (Ok u) q =
       twin refl (both_finish All w kind f l M N a b (closing_passed (all_fit w) u q) (source All format kind f l M N h s) al) tt
   twin_closing n m f kind rd l M N a b o h al s e (Err x) q = twin o h (al, s, e)
 
-  same_closed : (v : Result (Unit {0}) PictureFault) (M N : Contents) → M.accepted ≡ N.accepted → told v (Closed M.accepted) ≡ told v (Closed N.accepted)
-  same_closed v M N e = ap (λ t. told v (Closed t)) e
+  same_closed : (v : Result (Unit {0}) PictureFault) (M N : Contents) → M.accepted ≡ N.accepted → answer_or_refusal v (Closed M.accepted) ≡ answer_or_refusal v (Closed N.accepted)
+  same_closed v M N e = ap (λ t. answer_or_refusal v (Closed t)) e
 
   twin_step : (C E : Control) (M N : Contents) → Agrees w M → Agrees w N → Twin format C E M N → (c : Calling) → Outcome C E M N c
   unfolding Outcome
@@ -153,7 +153,7 @@ module _ (w : Setting) where
   same_shown C E M N (twin {n = n} {m = m} {f = f} {s = s} o h t) =
       record {
         layouts = refl;
-        samples = λ p x y i. h.samples p x y i (shown f (row_of p y) o);
+        samples = λ p x y i. h.samples p x y i (shown f (macroblock_row p y) o);
         ages = λ c r i. h.ages c r i (shown f r o);
       }
 
@@ -175,10 +175,10 @@ module _ (w : Setting) where
 
   -- the INTRA picture, from its opening on
   first_verdicts : (n m : ℕ) (f g : Option ℕ) (M N : Contents) (rd l p q : ℕ) (u v : Result (Unit {0}) PictureFault)
-      → told u (Opened (segment_count format l)) ≡ Opened p → told v (Opened (segment_count format l)) ≡ Opened q
-      → First format (moved u (control (n + 1) f (open_to picture.Intra (rounding_from rd) l)) (control n f resting))
-      (moved v (control (m + 1) g (open_to picture.Intra (rounding_from rd) l)) (control m g resting))
-      (moved u (unmarked M.held) M) (moved v (unmarked N.held) N)
+      → answer_or_refusal u (Opened (segment_count format l)) ≡ Opened p → answer_or_refusal v (Opened (segment_count format l)) ≡ Opened q
+      → First format (if_accepted u (control (n + 1) f (open_to picture.Intra (rounding_from rd) l)) (control n f resting))
+      (if_accepted v (control (m + 1) g (open_to picture.Intra (rounding_from rd) l)) (control m g resting))
+      (if_accepted u (unmarked M.held) M) (if_accepted v (unmarked N.held) N)
   first_verdicts n m f g M N rd l p q (Ok u) (Ok v) d e = first (none_accepted All w l M N) refl
   first_verdicts n m f g M N rd l p q (Ok u) (Err x) d e = absurd (let z : ◌≡◌ {A = ℕ} 0 1 = cc in omega arith)
   first_verdicts n m f g M N rd l p q (Err x) v d e = absurd (let z : ◌≡◌ {A = ℕ} 0 1 = cc in omega arith)
@@ -209,9 +209,9 @@ module _ (w : Setting) where
 
   closed_first : (n m : ℕ) (f g : Option ℕ) (rd : Rounding) (l : ℕ) (M N : Contents) → Agrees w M → Agrees w N → all_fit w ≡ true → WorkingAlike All format l M N
       → (u : Bool) → u ≡ true
-      → Twin format (moved (judge_closing u) (control n (Some l) resting) (control n f (open_to picture.Intra rd l)))
-      (moved (judge_closing u) (control m (Some l) resting) (control m g (open_to picture.Intra rd l)))
-      (moved (judge_closing u) (finish format picture.Intra l M) M) (moved (judge_closing u) (finish format picture.Intra l N) N)
+      → Twin format (if_accepted (judge_closing u) (control n (Some l) resting) (control n f (open_to picture.Intra rd l)))
+      (if_accepted (judge_closing u) (control m (Some l) resting) (control m g (open_to picture.Intra rd l)))
+      (if_accepted (judge_closing u) (finish format picture.Intra l M) M) (if_accepted (judge_closing u) (finish format picture.Intra l N) N)
   closed_first n m f g rd l M N a b fits al true e = twin refl (both_finish All w picture.Intra f l M N a b fits (inl refl) al) tt
   closed_first n m f g rd l M N a b fits al false e = absurd (false≢true e)
 
@@ -221,7 +221,7 @@ module _ (w : Setting) where
       inr (inr (same_closed (judge_closing (all_fit w)) M N e, closed_first n m f g rd l M N a b fits al (all_fit w) fits))
 
   fits_verdict : (v : Result (Unit {0}) PictureFault) (n : ℕ) (f : Option ℕ) (kind rd l p : ℕ) → judge_opening (all_fit w) format n f kind rd l ≡ v
-      → told v (Opened (segment_count format l)) ≡ Opened p → all_fit w ≡ true
+      → answer_or_refusal v (Opened (segment_count format l)) ≡ Opened p → all_fit w ≡ true
   fits_verdict (Ok u) n f kind rd l p e d = (opening_passed (all_fit w) format n f kind rd l u e).0
   fits_verdict (Err x) n f kind rd l p e d = absurd (let z : ◌≡◌ {A = ℕ} 0 1 = cc in omega arith)
 

@@ -23,8 +23,8 @@ use Rattle.calls.specs.declared.answers.Call.TheVariants.{Open as opening, Deliv
 abbrev pub in_picture : Format → ℕ → ℕ → ℕ → Bool
 in_picture format p x y = inside (columns_of format) (rows_of format) p x y
 
-abbrev pub row_of : ℕ → ℕ → ℕ
-row_of p y = y / side p
+abbrev pub macroblock_row : ℕ → ℕ → ℕ
+macroblock_row p y = y / side p
 
 -- what a reel shows: the finished picture's samples, and the ages of its macroblocks
 abbrev pub sample_in : State → ℕ → ℕ → ℕ → ℕ
@@ -57,13 +57,13 @@ pub data SameToOthers (k : ℕ) (f : Option ℕ) : Calling → Answer → Answer
   alike : {c : Calling} {a : Answer} → SameToOthers k f c a a
   own_delivery : {bytes : List ℕ} {a b : Answer} → SameToOthers k f (delivering k bytes) a b
   marks : {m n : ℕ} → ((j : ℕ) → j ≢ k → has_bit m j ≡ has_bit n j) → SameToOthers k f closing (Closed m) (Closed n)
-  own_sample : {p x y u v : ℕ} → Own k f (row_of p y) → SameToOthers k f (asking_sample p x y) (Sample u) (Sample v)
+  own_sample : {p x y u v : ℕ} → Own k f (macroblock_row p y) → SameToOthers k f (asking_sample p x y) (Sample u) (Sample v)
   own_age : {c r u v : ℕ} → Own k f r → SameToOthers k f (asking_age c r) (Age u) (Age v)
 
 -- Two reels show the same finished picture and ages outside segment k.
 pub record SameElsewhere (format : Format) (k : ℕ) (R S : State) : Type 0 where
   pub layouts : shows R ≡ shows S
-  pub samples : (p x y : ℕ) → in_picture format p x y ≡ true → Elsewhere k (shows R) (row_of p y) → sample_in R p x y ≡ sample_in S p x y
+  pub samples : (p x y : ℕ) → in_picture format p x y ≡ true → Elsewhere k (shows R) (macroblock_row p y) → sample_in R p x y ≡ sample_in S p x y
   pub ages : (c r : ℕ) → in_grid format c r ≡ true → Elsewhere k (shows R) r → age_in format R c r ≡ age_in format S c r
 
 -- Over a rewriting of number k's deliveries: each call kept has the same answer to the other numbers, and after every call, of either list, the same
@@ -168,8 +168,8 @@ abbrev pub read_off : Format → Book → List Entry → Book
 read_off format b [] = b
 read_off format b (e ∷ es) = read_off format (cond (granted e.answered) (noted format b e.call) b) es
 
-abbrev pub blank : Book
-blank = record { layout = 0; coding = record { kind = picture.Intra; intra = λ c r. false }; closed_ones = [] }
+abbrev pub empty_book : Book
+empty_book = record { layout = 0; coding = record { kind = picture.Intra; intra = λ c r. false }; closed_ones = [] }
 
 abbrev pub is_intra_picture : PictureKind → Bool
 is_intra_picture picture.Intra = true
@@ -187,7 +187,7 @@ coded_since c r (p ∷ ps) = p.intra c r || (not (is_intra_picture p.kind) && co
 
 -- the pictures that the calls have closed
 abbrev pub closed_by : Setting → Held → List Calling → List Coding
-closed_by w h cs = (read_off w.format blank (log w (new h) cs)).closed_ones
+closed_by w h cs = (read_off w.format empty_book (log w (new h) cs)).closed_ones
 
 abbrev pub age_by : ℕ → ℕ → List Coding → ℕ
 age_by c r ps = cond (coded_since c r ps) (min 250 (count c r ps)) 255
@@ -196,7 +196,7 @@ age_by c r ps = cond (coded_since c r ps) (min 250 (count c r ps)) 255
 pub record Aged (w : Setting) (h : Held) (cs : List Calling) : Type 0 where
   pub shown : (c r : ℕ) → in_grid w.format c r ≡ true → (layout : ℕ) → shows (run w (new h) cs) ≡ Some layout
       → age_in w.format (run w (new h) cs) c r ≡ age_by c r (closed_by w h cs)
-  pub told : (c r a : ℕ) → reply w (run w (new h) cs) (asking_age c r) ≡ Age a → a ≡ age_by c r (closed_by w h cs)
+  pub asked : (c r a : ℕ) → reply w (run w (new h) cs) (asking_age c r) ≡ Age a → a ≡ age_by c r (closed_by w h cs)
 
 -- Acceptance: what is accepted follows from the calls, the format and which parts of the memory fit it ----------------------
 
@@ -220,7 +220,7 @@ but_value OutOfTurn = OutOfTurn
 -- Every call of a list on a new reel is answered alike but for such values, and the pictures closed, which every count is read off, are the same.
 pub record AcceptedAlike (w v : Setting) (h i : Held) (cs : List Calling) : Type 0 where
   pub answers : map but_value (replies w (new h) cs) ≡ map but_value (replies v (new i) cs)
-  pub counted : closed_by w h cs ≡ closed_by v i cs
+  pub counts : closed_by w h cs ≡ closed_by v i cs
 
 -- The law --------------------------------------------------------------------------------------------------------------------
 

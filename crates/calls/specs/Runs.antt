@@ -72,45 +72,45 @@ pub record Contents : Type 0 where
   pub accepted : ℕ
   pub held : Held
 
-abbrev pub told : Result (Unit {0}) PictureFault → Answer → Answer
-told (Ok _) a = a
-told (Err f) a = Refused f
+abbrev pub answer_or_refusal : Result (Unit {0}) PictureFault → Answer → Answer
+answer_or_refusal (Ok _) a = a
+answer_or_refusal (Err f) a = Refused f
 
 abbrev pub delivered : List ℕ → Result (List Macroblock) PictureFault → Answer
 delivered bytes (Ok records) = Delivered (delivered_of bytes records)
 delivered bytes (Err f) = Refused f
 
-abbrev pub told_sample : Setting → Option ℕ → Contents → ℕ → ℕ → ℕ → Answer
-told_sample w f M plane across down =
-    told (judge_sample w.store_fits w.format f plane across down) (Sample (M.held.finished.sample plane across down))
+abbrev pub sample_answer : Setting → Option ℕ → Contents → ℕ → ℕ → ℕ → Answer
+sample_answer w f M plane across down =
+    answer_or_refusal (judge_sample w.store_fits w.format f plane across down) (Sample (M.held.finished.sample plane across down))
 
-abbrev pub told_age : Setting → Option ℕ → Contents → ℕ → ℕ → Answer
-told_age w f M column row =
-    told (judge_age w.ages_fit w.format f column row) (Age (age_at w.format M.held.finished_ages column row))
+abbrev pub age_answer : Setting → Option ℕ → Contents → ℕ → ℕ → Answer
+age_answer w f M column row =
+    answer_or_refusal (judge_age w.ages_fit w.format f column row) (Age (age_at w.format M.held.finished_ages column row))
 
 -- what a call is answered
 abbrev pub answer : Setting → Control → Contents → Calling → Answer
 answer w (control n f resting) M (opening kind rounding layout) =
-    told (judge_opening (all_fit w) w.format n f kind rounding layout) (Opened (segment_count w.format layout))
+    answer_or_refusal (judge_opening (all_fit w) w.format n f kind rounding layout) (Opened (segment_count w.format layout))
 answer w (control n f resting) M (delivering segment bytes) = OutOfTurn
 answer w (control n f resting) M closing = OutOfTurn
-answer w (control n f resting) M (asking_sample plane across down) = told_sample w f M plane across down
-answer w (control n f resting) M (asking_age column row) = told_age w f M column row
+answer w (control n f resting) M (asking_sample plane across down) = sample_answer w f M plane across down
+answer w (control n f resting) M (asking_age column row) = age_answer w f M column row
 answer w (control n f (open_to k r l)) M (opening kind rounding layout) = OutOfTurn
 answer w (control n f (open_to k r l)) M (delivering segment bytes) =
     delivered bytes (judge_delivery (all_fit w) w.format k l M.accepted segment bytes)
-answer w (control n f (open_to k r l)) M closing = told (judge_closing (all_fit w)) (Closed M.accepted)
-answer w (control n f (open_to k r l)) M (asking_sample plane across down) = told_sample w f M plane across down
-answer w (control n f (open_to k r l)) M (asking_age column row) = told_age w f M column row
+answer w (control n f (open_to k r l)) M closing = answer_or_refusal (judge_closing (all_fit w)) (Closed M.accepted)
+answer w (control n f (open_to k r l)) M (asking_sample plane across down) = sample_answer w f M plane across down
+answer w (control n f (open_to k r l)) M (asking_age column row) = age_answer w f M column row
 
-abbrev pub moved : {X : Type 0} → Result (Unit {0}) PictureFault → X → X → X
-moved (Ok _) there here = there
-moved (Err f) there here = here
+abbrev pub if_accepted : {X : Type 0} → Result (Unit {0}) PictureFault → X → X → X
+if_accepted (Ok _) there here = there
+if_accepted (Err f) there here = here
 
 -- the control after a call: it does not depend on what the memory holds
 abbrev pub onward : Setting → Control → Calling → Control
 onward w (control n f resting) (opening kind rounding layout) =
-    moved (judge_opening (all_fit w) w.format n f kind rounding layout)
+    if_accepted (judge_opening (all_fit w) w.format n f kind rounding layout)
     (control (n + 1) f (open_to (kind_of kind) (rounding_from rounding) layout)) (control n f resting)
 onward w (control n f resting) (delivering segment bytes) = control n f resting
 onward w (control n f resting) closing = control n f resting
@@ -119,7 +119,7 @@ onward w (control n f resting) (asking_age column row) = control n f resting
 onward w (control n f (open_to k r l)) (opening kind rounding layout) = control n f (open_to k r l)
 onward w (control n f (open_to k r l)) (delivering segment bytes) = control n f (open_to k r l)
 onward w (control n f (open_to k r l)) closing =
-    moved (judge_closing (all_fit w)) (control n (Some l) resting) (control n f (open_to k r l))
+    if_accepted (judge_closing (all_fit w)) (control n (Some l) resting) (control n f (open_to k r l))
 onward w (control n f (open_to k r l)) (asking_sample plane across down) = control n f (open_to k r l)
 onward w (control n f (open_to k r l)) (asking_age column row) = control n f (open_to k r l)
 
@@ -146,7 +146,7 @@ finish format kind layout M = unmarked (picture_closed format kind layout M.acce
 -- the contents after a call
 abbrev pub after : Setting → Control → Contents → Calling → Contents
 after w (control n f resting) M (opening kind rounding layout) =
-    moved (judge_opening (all_fit w) w.format n f kind rounding layout) (unmarked M.held) M
+    if_accepted (judge_opening (all_fit w) w.format n f kind rounding layout) (unmarked M.held) M
 after w (control n f resting) M (delivering segment bytes) = M
 after w (control n f resting) M closing = M
 after w (control n f resting) M (asking_sample plane across down) = M
@@ -154,7 +154,7 @@ after w (control n f resting) M (asking_age column row) = M
 after w (control n f (open_to k r l)) M (opening kind rounding layout) = M
 after w (control n f (open_to k r l)) M (delivering segment bytes) =
     when_read w r l segment (judge_delivery (all_fit w) w.format k l M.accepted segment bytes) M
-after w (control n f (open_to k r l)) M closing = moved (judge_closing (all_fit w)) (finish w.format k l M) M
+after w (control n f (open_to k r l)) M closing = if_accepted (judge_closing (all_fit w)) (finish w.format k l M) M
 after w (control n f (open_to k r l)) M (asking_sample plane across down) = M
 after w (control n f (open_to k r l)) M (asking_age column row) = M
 

@@ -4,8 +4,8 @@ use Rattle.records.specs.declared.faults.MacroblockFault.{MacroblockFault}
 use Rattle.records.specs.declared.types.Macroblock.{Macroblock}
 use Rattle.records.specs.declared.types.PictureKind.{PictureKind}
 use Rattle.records.specs.Words.{words_of}
-use Rattle.records.specs.Reading.{State, and_then, with_state}
-use Rattle.records.specs.Macroblocks.{after, macroblock_from}
+use Rattle.records.specs.Reading.{Unread, and_then, with_unread}
+use Rattle.records.specs.Macroblocks.{in_front, macroblock_from}
 use Rattle.records.specs.Deliveries.{end_from, macroblocks_from, read, whole_words}
 use Rattle.records.specs.Again.{records_in}
 
@@ -24,17 +24,17 @@ accepted_reads kind n bytes h =
     (ap is_ok b.1, a.2 ∙ b.2 ∙ d.2 ∙ ap (λ r. Ok (records_in r)) (sym b.1))
 
 -- nothing is left
-pub none_left : (kind : PictureKind) (n m : ℕ) (s : State) → n ≤ m → records_in (macroblocks_from (n - m) kind s m) ≡ []
+pub none_left : (kind : PictureKind) (n m : ℕ) (s : Unread) → n ≤ m → records_in (macroblocks_from (n - m) kind s m) ≡ []
 unfolding macroblocks_from
 none_left kind n m s h = let e : n - m ≡ zero = omega arith in rw e
 
-after_ok : {F : Type 0} (x : Macroblock) (r : Result (List Macroblock × State) F) → is_ok (after (x ∷ []) r) ≡ true → (is_ok r ≡ true) × (records_in (after (x ∷ []) r) ≡ x ∷ records_in r)
-after_ok x (Ok q) h = (refl, refl)
-after_ok x (Err f) h = let z : ◌≡◌ {A = ℕ} 0 1 = cc in absurd (omega arith)
+in_front_ok : {F : Type 0} (x : Macroblock) (r : Result (List Macroblock × Unread) F) → is_ok (in_front (x ∷ []) r) ≡ true → (is_ok r ≡ true) × (records_in (in_front (x ∷ []) r) ≡ x ∷ records_in r)
+in_front_ok x (Ok q) h = (refl, refl)
+in_front_ok x (Err f) h = let z : ◌≡◌ {A = ℕ} 0 1 = cc in absurd (omega arith)
 
-module _ (kind : PictureKind) (n m : ℕ) (s : State) (h : m < n) (ok : is_ok (macroblocks_from (n - m) kind s m) ≡ true) where
+module _ (kind : PictureKind) (n m : ℕ) (s : Unread) (h : m < n) (ok : is_ok (macroblocks_from (n - m) kind s m) ≡ true) where
   -- the next macroblock has no fault
-  pub never : (f : MacroblockFault) → ◌≡◌ {A = Result (Macroblock × State) MacroblockFault} (Err f) (macroblock_from kind s m) → ⊥
+  pub never : (f : MacroblockFault) → ◌≡◌ {A = Result (Macroblock × Unread) MacroblockFault} (Err f) (macroblock_from kind s m) → ⊥
   unfolding macroblocks_from
   never f e =
       let i : n - m ≡ suc (n - (m + 1)) = omega arith in
@@ -42,23 +42,23 @@ module _ (kind : PictureKind) (n m : ℕ) (s : State) (h : m < n) (ok : is_ok (m
       let y : ◌≡◌ {A = ℕ} 0 1 = cc in
       omega arith
 
-  pub next_one : (x : Macroblock) (t : State) → ◌≡◌ {A = Result (Macroblock × State) MacroblockFault} (Ok (x, t)) (macroblock_from kind s m)
+  pub next_one : (x : Macroblock) (t : Unread) → ◌≡◌ {A = Result (Macroblock × Unread) MacroblockFault} (Ok (x, t)) (macroblock_from kind s m)
       → (is_ok (macroblocks_from (n - (m + 1)) kind t (m + 1)) ≡ true) × (records_in (macroblocks_from (n - m) kind s m) ≡ x ∷ records_in (macroblocks_from (n - (m + 1)) kind t (m + 1)))
   unfolding macroblocks_from
   next_one x t e =
       let i : n - m ≡ suc (n - (m + 1)) = omega arith in
-      let q = after_ok x (macroblocks_from (n - (m + 1)) kind t (m + 1)) (rw (i, ← e) at ok) in
+      let q = in_front_ok x (macroblocks_from (n - (m + 1)) kind t (m + 1)) (rw (i, ← e) at ok) in
       (q.0, rw (i, ← e) q.1)
 
 -- a macroblock that is read of those left: it has no fault, and is the first of their records
-pub record One (kind : PictureKind) (n m : ℕ) (s : State) (n' m' : ℕ) (t : State) (r : Result Macroblock MacroblockFault) : Type 0 where
+pub record One (kind : PictureKind) (n m : ℕ) (s : Unread) (n' m' : ℕ) (t : Unread) (r : Result Macroblock MacroblockFault) : Type 0 where
   pub found : Macroblock
   pub came : r ≡ Ok found
   pub readable : is_ok (macroblocks_from (n' - m') kind t m') ≡ true
   pub records : records_in (macroblocks_from (n - m) kind s m) ≡ found ∷ records_in (macroblocks_from (n' - m') kind t m')
 
-pub one_read : (kind : PictureKind) (n m : ℕ) (s : State) → is_ok (macroblocks_from (n - m) kind s m) ≡ true → (n' m' i : ℕ) (t : State) (r : Result Macroblock MacroblockFault)
-    → n' ≡ n → 0 < n - m → i ≡ m → m' ≡ m + 1 → with_state r t ≡ macroblock_from kind s i → One kind n m s n' m' t r
+pub one_read : (kind : PictureKind) (n m : ℕ) (s : Unread) → is_ok (macroblocks_from (n - m) kind s m) ≡ true → (n' m' i : ℕ) (t : Unread) (r : Result Macroblock MacroblockFault)
+    → n' ≡ n → 0 < n - m → i ≡ m → m' ≡ m + 1 → with_unread r t ≡ macroblock_from kind s i → One kind n m s n' m' t r
 one_read kind n m s ok n' m' i t (Ok x) same some here next e =
     let q = next_one kind n m s (omega arith) ok x t (e ∙ ap (λ j. macroblock_from kind s j) here) in
     record { found = x; came = refl; readable = rw (same, next) q.0; records = rw (same, next) q.1 }

@@ -10,25 +10,25 @@ use Rattle.records.specs.declared.types.Macroblock.{Macroblock}
 use Rattle.records.specs.declared.types.Macroblock.TheVariants.{Skipped, Inter, Intra}
 use Rattle.records.specs.declared.types.Delivered.{Delivered}
 use Rattle.records.specs.Words.{words_of}
-use Rattle.records.specs.Reading.{State, and_then, ask, place_at}
-use Rattle.records.specs.Macroblocks.{after, macroblock_from}
+use Rattle.records.specs.Reading.{Unread, and_then, ask, place_at}
+use Rattle.records.specs.Macroblocks.{in_front, macroblock_from}
 
 -- bytes are whole words
 abbrev pub whole_words : List ℕ → Result (Unit {0}) WordFault
 whole_words bytes = ask (length bytes % 4 == 0) ByteCount (Ok tt)
 
 -- so many macroblocks, from macroblock m on
-unfoldable pub macroblocks_from : ℕ → PictureKind → State → ℕ → Result (List Macroblock × State) SegmentFault
+unfoldable pub macroblocks_from : ℕ → PictureKind → Unread → ℕ → Result (List Macroblock × Unread) SegmentFault
 macroblocks_from zero kind s m = Ok ([], s)
 macroblocks_from (suc left) kind s m =
-    and_then in_macroblock (macroblock_from kind s m) (λ q. after (q.0 ∷ []) (macroblocks_from left kind q.1 (m + 1)))
+    and_then in_macroblock (macroblock_from kind s m) (λ q. in_front (q.0 ∷ []) (macroblocks_from left kind q.1 (m + 1)))
 
 -- no word is left after the last of so many macroblocks
 abbrev pub end_in : ℕ → List ℕ → ℕ → Result (Unit {0}) SegmentFault
 end_in count [] i = Ok tt
 end_in count (w ∷ ws) i = Err (LeftOver (place_at (ws, i) count 6))
 
-abbrev pub end_from : ℕ → State → Result (Unit {0}) SegmentFault
+abbrev pub end_from : ℕ → Unread → Result (Unit {0}) SegmentFault
 end_from count s = end_in count s.0 s.1
 
 -- What the bytes of a delivery mean, in a picture of a kind, for a segment of so many macroblocks: their records, or the one fault.
@@ -49,9 +49,9 @@ intra_count [] = 0
 intra_count (m ∷ ms) = cond (is_intra m) 1 0 + intra_count ms
 
 -- the INTRA macroblocks among those that are read, beside so many before
-abbrev pub counted : {F : Type 0} → ℕ → Result (List Macroblock × State) F → Result (ℕ × State) F
-counted k (Ok q) = Ok (k + intra_count q.0, q.1)
-counted k (Err f) = Err f
+abbrev pub intra_counted : {F : Type 0} → ℕ → Result (List Macroblock × Unread) F → Result (ℕ × Unread) F
+intra_counted k (Ok q) = Ok (k + intra_count q.0, q.1)
+intra_counted k (Err f) = Err f
 
 -- what an accepted delivery is answered
 abbrev pub delivered_of : List ℕ → List Macroblock → Delivered
@@ -66,5 +66,5 @@ intra_at records i = is_intra (slice_index_or records i Skipped)
 
 -- What is sure of accepted records: there is one for each macroblock, and in an INTRA picture all are INTRA.
 pub record Whole (kind : PictureKind) (count : ℕ) (records : List Macroblock) : Type 0 where
-  pub counted : length records ≡ count
+  pub one_each : length records ≡ count
   pub intra : kind ≡ picture.Intra → (i : ℕ) → i < count → intra_at records i ≡ true

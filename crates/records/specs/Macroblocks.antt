@@ -14,7 +14,7 @@ use Rattle.records.specs.declared.types.Block.{Block}
 use Rattle.records.specs.declared.types.Macroblock.{Macroblock}
 use Rattle.records.specs.declared.types.Macroblock.TheVariants.{Skipped, Inter, Intra}
 use Rattle.records.specs.Words.{bits}
-use Rattle.records.specs.Reading.{State, and_then, ask, place_at, with_state, word_from}
+use Rattle.records.specs.Reading.{Unread, and_then, ask, place_at, with_unread, word_from}
 use Rattle.records.specs.Blocks.{block_from}
 
 -- the type that a number stands for
@@ -40,29 +40,29 @@ head_with kind p (Some t) quantizer pattern =
 abbrev pub head_of : PictureKind → Place → ℕ → Result Head MacroblockFault
 head_of kind p w = head_with kind p (type_of (bits 27 26 w)) (bits 25 21 w) (bits 20 15 w)
 
-abbrev pub head_from : PictureKind → State → ℕ → Result (Head × State) MacroblockFault
-head_from kind s m = and_then Word (word_from due.Head (place_at s m 6) s) (λ q. with_state (head_of kind (place_at s m 6) q.0) q.1)
+abbrev pub head_from : PictureKind → Unread → ℕ → Result (Head × Unread) MacroblockFault
+head_from kind s m = and_then Word (word_from due.Head (place_at s m 6) s) (λ q. with_unread (head_of kind (place_at s m 6) q.0) q.1)
 
 -- the difference in a vector word: bits 11 to 6 horizontal, 5 to 0 vertical, each plus 32
 abbrev pub difference_of : ℕ → Difference
 difference_of w = record { horizontal = pos (bits 11 6 w) -ℤ pos 32; vertical = pos (bits 5 0 w) -ℤ pos 32 }
 
-abbrev pub difference_from : State → ℕ → Result (Difference × State) MacroblockFault
+abbrev pub difference_from : Unread → ℕ → Result (Difference × Unread) MacroblockFault
 difference_from s m = and_then Word (word_from due.Vector (place_at s m 6) s) (λ q. Ok (difference_of q.0, q.1))
 
 -- puts what was read before in front of a list that is read
-abbrev pub after : {X F : Type 0} → List X → Result (List X × State) F → Result (List X × State) F
-after xs (Ok q) = Ok (xs ++ q.0, q.1)
-after xs (Err f) = Err f
+abbrev pub in_front : {X F : Type 0} → List X → Result (List X × Unread) F → Result (List X × Unread) F
+in_front xs (Ok q) = Ok (xs ++ q.0, q.1)
+in_front xs (Err f) = Err f
 
 -- so many blocks, from block b on
-unfoldable pub blocks_from : ℕ → Bool → ℕ → State → ℕ → ℕ → Result (List Block × State) MacroblockFault
+unfoldable pub blocks_from : ℕ → Bool → ℕ → Unread → ℕ → ℕ → Result (List Block × Unread) MacroblockFault
 blocks_from zero intra pattern s m b = Ok ([], s)
 blocks_from (suc left) intra pattern s m b =
-    and_then in_block (block_from intra pattern s m b) (λ q. after (q.0 ∷ []) (blocks_from left intra pattern q.1 m (b + 1)))
+    and_then in_block (block_from intra pattern s m b) (λ q. in_front (q.0 ∷ []) (blocks_from left intra pattern q.1 m (b + 1)))
 
 -- what follows a head
-abbrev pub rest_from : MacroblockType → ℕ → ℕ → State → ℕ → Result (Macroblock × State) MacroblockFault
+abbrev pub rest_from : MacroblockType → ℕ → ℕ → Unread → ℕ → Result (Macroblock × Unread) MacroblockFault
 rest_from coding.Skipped quantizer pattern s m = Ok (Skipped, s)
 rest_from coding.Inter quantizer pattern s m =
     and_then (λ f. f) (difference_from s m) (λ d.
@@ -73,5 +73,5 @@ rest_from coding.Intra quantizer pattern s m =
     Ok (Intra quantizer pattern b.0, b.1))
 
 -- macroblock m of a delivery
-abbrev pub macroblock_from : PictureKind → State → ℕ → Result (Macroblock × State) MacroblockFault
+abbrev pub macroblock_from : PictureKind → Unread → ℕ → Result (Macroblock × Unread) MacroblockFault
 macroblock_from kind s m = and_then (λ f. f) (head_from kind s m) (λ h. rest_from h.0.coding h.0.quantizer h.0.pattern h.1 m)

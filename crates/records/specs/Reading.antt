@@ -8,16 +8,16 @@ use Rattle.records.specs.declared.types.WordKind.{WordKind}
 use Rattle.records.specs.Words.{words_of, bits, kind_number, unnamed}
 
 -- the words left, and the index of the first
-abbrev pub State : Type 0
-State = List ℕ × ℕ
+abbrev pub Unread : Type 0
+Unread = List ℕ × ℕ
 
-abbrev pub state_of : Words → State
-state_of s = (words_of s.rest.now, s.index)
+abbrev pub unread_of : Words → Unread
+unread_of s = (words_of s.rest.now, s.index)
 
 -- an answer together with what is left to read
-abbrev pub with_state : {X F : Type 0} → Result X F → State → Result (X × State) F
-with_state (Ok x) s = Ok (x, s)
-with_state (Err f) s = Err f
+abbrev pub with_unread : {X F : Type 0} → Result X F → Unread → Result (X × Unread) F
+with_unread (Ok x) s = Ok (x, s)
+with_unread (Err f) s = Err f
 
 -- a question: a no is the fault
 abbrev pub ask : {X F : Type 0} → Bool → F → Result X F → Result X F
@@ -29,7 +29,7 @@ and_then up (Ok x) on = on x
 and_then up (Err e) on = Err (up e)
 
 -- where the next word stands, in a macroblock and a block
-abbrev pub place_at : State → ℕ → ℕ → Place
+abbrev pub place_at : Unread → ℕ → ℕ → Place
 place_at s m b = record { word = s.1; macroblock = m; block = b }
 
 -- a word has the kind that is due, and its unnamed bits are zero
@@ -40,9 +40,9 @@ formed due p w =
     (Ok w))
 
 -- the next word
-abbrev pub word_in : WordKind → Place → List ℕ → ℕ → Result (ℕ × State) WordFault
+abbrev pub word_in : WordKind → Place → List ℕ → ℕ → Result (ℕ × Unread) WordFault
 word_in due p [] i = Err (Missing p)
-word_in due p (w ∷ ws) i = with_state (formed due p w) (ws, i + 1)
+word_in due p (w ∷ ws) i = with_unread (formed due p w) (ws, i + 1)
 
-abbrev pub word_from : WordKind → Place → State → Result (ℕ × State) WordFault
+abbrev pub word_from : WordKind → Place → Unread → Result (ℕ × Unread) WordFault
 word_from due p s = word_in due p s.0 s.1

@@ -1,6 +1,6 @@
 // Reading a block.
 ghost use Rattle.std.specs.Prelude.{◌≡◌, ℕ, ◌<◌, IfOk};
-ghost use Rattle.records.specs.Reading.{state_of, with_state};
+ghost use Rattle.records.specs.Reading.{unread_of, with_unread};
 ghost use Rattle.records.specs.Blocks.{block_from, code_from, code_of, coded_in, coefficient_of, first_position, levels_from, no_levels};
 
 use crate::faults::{BlockFault, Place};
@@ -56,7 +56,7 @@ fn first_position(intra: bool) -> u8
 impl<'a> Words<'a> {
     // The code of an INTRA block's first coefficient.
     fn read_code(&mut self, macroblock: usize, block: u8) -> Result<u8, BlockFault>
-        ensures { with_state result (state_of self.new) ≡ code_from (state_of self.old) macroblock block }
+        ensures { with_unread result (unread_of self.new) ≡ code_from (unread_of self.old) macroblock block }
     {
         let place = self.place(macroblock, block);
         let word = self.take(WordKind::Dc, place)?;
@@ -70,7 +70,7 @@ impl<'a> Words<'a> {
         block: u8,
         first: u8,
     ) -> Result<[i8; 64], BlockFault>
-        ensures { with_state result (state_of self.new) ≡ levels_from (state_of self.old) macroblock block first no_levels }
+        ensures { with_unread result (unread_of self.new) ≡ levels_from (unread_of self.old) macroblock block first no_levels }
     {
         let mut levels = [0i8; 64];
         let mut from = first;
@@ -94,7 +94,7 @@ impl<'a> Words<'a> {
         macroblock: usize,
         block: u8,
     ) -> Result<Block, BlockFault>
-        ensures { with_state result (state_of self.new) ≡ block_from intra pattern (state_of self.old) macroblock block }
+        ensures { with_unread result (unread_of self.new) ≡ block_from intra pattern (unread_of self.old) macroblock block }
     {
         let dc = if intra {
             Some(self.read_code(macroblock, block)?)

@@ -1,5 +1,5 @@
 ghost use Rattle.std.specs.Prelude.{◌≡◌, ℕ, ◌-◌, ◌^◌, ◌<◌, ◌≤◌, true, is_ok};
-ghost use Rattle.records.specs.Reading.{state_of};
+ghost use Rattle.records.specs.Reading.{unread_of};
 ghost use Rattle.records.specs.Deliveries.{macroblocks_from};
 
 use crate::reader::Words;
@@ -14,5 +14,5 @@ pub struct Delivery<'a> {
     // the numbers of the macroblocks still to come
     pub(crate) due: Range<usize>,
     ghost within: { due.start ≤ due.end },
-    ghost readable: { is_ok (macroblocks_from (due.end - due.start) kind (state_of words) due.start) ≡ true },
+    ghost readable: { is_ok (macroblocks_from (due.end - due.start) kind (unread_of words) due.start) ≡ true },
 }

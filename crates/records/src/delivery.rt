@@ -1,7 +1,7 @@
 // Checking a whole delivery before anything rests on it.
 ghost use Rattle.std.specs.Prelude.{◌≡◌, ℕ, true, is_ok, IfOk, OnOk};
-ghost use Rattle.records.specs.Reading.{state_of, with_state};
-ghost use Rattle.records.specs.Deliveries.{Whole, answered, counted, end_from, is_intra, macroblocks_from, read, whole_words};
+ghost use Rattle.records.specs.Reading.{unread_of, with_unread};
+ghost use Rattle.records.specs.Deliveries.{Whole, answered, intra_counted, end_from, is_intra, macroblocks_from, read, whole_words};
 
 use crate::faults::{SegmentFault, WordFault};
 use crate::reader::Words;
@@ -29,7 +29,7 @@ fn check_bytes(bytes: &[u8]) -> Result<(), WordFault>
 impl<'a> Words<'a> {
     // No word may be left after the last macroblock.
     fn check_end(&self, macroblocks: usize) -> Result<(), SegmentFault>
-        ensures { result ≡ end_from macroblocks (state_of self.now) }
+        ensures { result ≡ end_from macroblocks (unread_of self.now) }
     {
         if self.rest.len() < 4 {
             Ok(())
@@ -40,7 +40,7 @@ impl<'a> Words<'a> {
 
     // Reads so many macroblocks, and counts the INTRA ones. (A loop, since of a closure that reads on in the words an iterator's contract says nothing.)
     fn count_intra(&mut self, kind: PictureKind, macroblocks: usize) -> Result<usize, SegmentFault>
-        ensures { with_state result (state_of self.new) ≡ counted 0 (macroblocks_from macroblocks kind (state_of self.old) 0) }
+        ensures { with_unread result (unread_of self.new) ≡ intra_counted 0 (macroblocks_from macroblocks kind (unread_of self.old) 0) }
     {
         let mut intra = 0;
         for macroblock in 0..macroblocks {

@@ -1,6 +1,6 @@
 // Reading a macroblock.
 ghost use Rattle.std.specs.Prelude.{◌≡◌, ℕ, true, false};
-ghost use Rattle.records.specs.Reading.{state_of, with_state};
+ghost use Rattle.records.specs.Reading.{unread_of, with_unread};
 ghost use Rattle.records.specs.Macroblocks.{blocks_from, difference_from, difference_of, head_from, head_of, macroblock_from, rest_from, sound_head};
 
 use crate::faults::{MacroblockFault, Place};
@@ -51,7 +51,7 @@ fn difference_of(word: u32) -> Difference
 // The macroblock's number comes with each call: kept in `Words`, each step would owe in a clause of its own that it stays.
 impl<'a> Words<'a> {
     fn read_head(&mut self, kind: PictureKind, macroblock: usize) -> Result<Head, MacroblockFault>
-        ensures { with_state result (state_of self.new) ≡ head_from kind (state_of self.old) macroblock }
+        ensures { with_unread result (unread_of self.new) ≡ head_from kind (unread_of self.old) macroblock }
     {
         let place = self.place(macroblock, 6);
         let word = self.take(WordKind::Head, place)?;
@@ -59,7 +59,7 @@ impl<'a> Words<'a> {
     }
 
     fn read_difference(&mut self, macroblock: usize) -> Result<Difference, MacroblockFault>
-        ensures { with_state result (state_of self.new) ≡ difference_from (state_of self.old) macroblock }
+        ensures { with_unread result (unread_of self.new) ≡ difference_from (unread_of self.old) macroblock }
     {
         let place = self.place(macroblock, 6);
         let word = self.take(WordKind::Vector, place)?;
@@ -74,7 +74,7 @@ impl<'a> Words<'a> {
         pattern: u8,
         macroblock: usize,
     ) -> Result<[Block; 6], MacroblockFault>
-        ensures { with_state result (state_of self.new) ≡ blocks_from 6 intra pattern (state_of self.old) macroblock 0 }
+        ensures { with_unread result (unread_of self.new) ≡ blocks_from 6 intra pattern (unread_of self.old) macroblock 0 }
     {
         let mut gathered = [Block {
             dc: None,
@@ -88,7 +88,7 @@ impl<'a> Words<'a> {
 
     // What follows a head.
     fn read_rest(&mut self, head: Head, macroblock: usize) -> Result<Macroblock, MacroblockFault>
-        ensures { with_state result (state_of self.new) ≡ rest_from head.coding head.quantizer head.pattern (state_of self.old) macroblock }
+        ensures { with_unread result (unread_of self.new) ≡ rest_from head.coding head.quantizer head.pattern (unread_of self.old) macroblock }
     {
         let quantizer = head.quantizer;
         let pattern = head.pattern;
@@ -121,7 +121,7 @@ impl<'a> Words<'a> {
         kind: PictureKind,
         macroblock: usize,
     ) -> Result<Macroblock, MacroblockFault>
-        ensures { with_state result (state_of self.new) ≡ macroblock_from kind (state_of self.old) macroblock }
+        ensures { with_unread result (unread_of self.new) ≡ macroblock_from kind (unread_of self.old) macroblock }
     {
         let head = self.read_head(kind, macroblock)?;
         self.read_rest(head, macroblock)

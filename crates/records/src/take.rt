@@ -1,7 +1,7 @@
 // Reading word by word.
 ghost use Rattle.std.specs.Prelude.{◌≡◌};
 ghost use Rattle.records.specs.Words.{words_of};
-ghost use Rattle.records.specs.Reading.{place_at, state_of, with_state, word_from};
+ghost use Rattle.records.specs.Reading.{place_at, unread_of, with_unread, word_from};
 
 use crate::faults::{Place, WordFault};
 use crate::fields::{field, split_word};
@@ -11,7 +11,7 @@ use crate::types::WordKind;
 impl<'a> Words<'a> {
     // A reader at the first word of the bytes.
     pub fn new(bytes: &'a [u8]) -> Words<'a>
-        ensures { state_of result ≡ (words_of bytes.now, 0) }
+        ensures { unread_of result ≡ (words_of bytes.now, 0) }
     {
         Words {
             rest: bytes,
@@ -21,7 +21,7 @@ impl<'a> Words<'a> {
 
     // The place of the next word, in a macroblock and a block.
     pub(crate) fn place(&self, macroblock: usize, block: u8) -> Place
-        ensures { result ≡ place_at (state_of self.now) macroblock block }
+        ensures { result ≡ place_at (unread_of self.now) macroblock block }
     {
         Place {
             word: self.index,
@@ -32,7 +32,7 @@ impl<'a> Words<'a> {
 
     // The next word, which has to be of the kind that is due, with its unnamed bits zero.
     pub(crate) fn take(&mut self, due: WordKind, place: Place) -> Result<u32, WordFault>
-        ensures { with_state result (state_of self.new) ≡ word_from due place (state_of self.old) }
+        ensures { with_unread result (unread_of self.new) ≡ word_from due place (unread_of self.old) }
     {
         let Some((word, rest)) = split_word(self.rest) else {
             return Err(WordFault::Missing(place));

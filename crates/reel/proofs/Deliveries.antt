@@ -14,10 +14,10 @@ use Rattle.calls.specs.declared.answers.Call.TheVariants.{Deliver as delivering}
 use Rattle.calls.proofs.Sizes.{same_setting}
 use Rattle.calls.proofs.Verdicts.{delivery_passed}
 use Rattle.reel.specs.declared.reels.Slip.{Slip}
-use Rattle.reel.specs.Calls.{counted, held_after, judged}
+use Rattle.reel.specs.Calls.{delivery_answered, held_after, judged}
 
 -- the counts come from the questions
-granted : (bytes : List ℕ) (v : Result (List Macroblock) PictureFault) (counts : Delivered) → Ok counts ≡ counted bytes v
+granted : (bytes : List ℕ) (v : Result (List Macroblock) PictureFault) (counts : Delivered) → Ok counts ≡ delivery_answered bytes v
     → (records : List Macroblock) × ((v ≡ Ok records) × (counts ≡ delivered_of bytes records))
 granted bytes (Ok records) counts e = (records, (refl, cc))
 granted bytes (Err g) counts e = absurd (let z : ◌≡◌ {A = ℕ} 0 1 = cc in omega arith)
@@ -30,7 +30,7 @@ module _ (slip : Slip) (held : Held) (segment : ℕ) (bytes : List ℕ) where
     pub judgement : judged slip held segment bytes ≡ Ok (accepted slip.kind (macroblocks_in slip.reel.format slip.layout segment) bytes)
     pub counts_are : counts ≡ delivered_of bytes (accepted slip.kind (macroblocks_in slip.reel.format slip.layout segment) bytes)
 
-  pub delivery_granted : (counts : Delivered) → Ok counts ≡ counted bytes (judged slip held segment bytes) → Granted counts
+  pub delivery_granted : (counts : Delivered) → Ok counts ≡ delivery_answered bytes (judged slip held segment bytes) → Granted counts
   delivery_granted counts d =
       let g = granted bytes (judged slip held segment bytes) counts d in
       let t = delivery_passed (fits slip.reel.format held) slip.reel.format slip.kind slip.layout slip.accepted segment bytes g.0 g.1.0 in

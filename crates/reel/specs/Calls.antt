@@ -1,5 +1,5 @@
 -- What the calls answer and hand on, by the outcome of their questions.
-use Rattle.std.specs.Prelude.{ℕ, ◌+◌, ◌^◌, false, List, ℤ, Some, None, Ok, Err, Option, Result, bit_or, ◌==◌}
+use Rattle.std.specs.Prelude.{ℕ, ◌+◌, ◌^◌, Bool, false, not, ◌&&◌, List, ℤ, Some, None, Ok, Err, Option, Result, bit_or, ◌==◌}
 use Rattle.records.specs.declared.types.Delivered.{Delivered}
 use Rattle.records.specs.declared.types.Macroblock.{Macroblock}
 use Rattle.records.specs.Deliveries.{delivered_of}
@@ -8,7 +8,8 @@ use Rattle.records.specs.declared.types.PictureKind.TheVariants as picture
 use Rattle.records.specs.Reading.{and_then, ask}
 use Rattle.samples.specs.declared.prediction.Rounding.{Rounding}
 use Rattle.pictures.specs.declared.formats.Format.{Format}
-use Rattle.pictures.specs.Segments.{segment_at, segment_count, sound}
+use Rattle.pictures.specs.Pictures.{covers}
+use Rattle.pictures.specs.Segments.{has_bit, segment_at, segment_count, sound}
 use Rattle.calls.specs.declared.faults.PictureFault.{PictureFault}
 use Rattle.calls.specs.declared.faults.PictureFault.TheVariants as fault
 use Rattle.calls.specs.Held.{Held, fits}
@@ -33,9 +34,9 @@ judge_layout format None picture.Inter layout = Err fault.Unfinished
 judge_layout format (Some own) picture.Inter layout = ask (own == layout) fault.Layout passed
 
 -- the kind and the rounding of a picture that may be opened
-abbrev pub granted : ℕ → ℕ → Result (Unit {0}) PictureFault → Result (PictureKind × Rounding) PictureFault
-granted kind rounding (Ok _) = Ok (kind_of kind, rounding_from rounding)
-granted kind rounding (Err f) = Err f
+abbrev pub opened_kind : ℕ → ℕ → Result (Unit {0}) PictureFault → Result (PictureKind × Rounding) PictureFault
+opened_kind kind rounding (Ok _) = Ok (kind_of kind, rounding_from rounding)
+opened_kind kind rounding (Err f) = Err f
 
 -- an opening counts one picture more; a refusal hands the reel back
 abbrev pub opened : Reel → ℕ → ℕ → ℕ → Result (Unit {0}) PictureFault → Result (Slip × ℕ) (Reel × PictureFault)
@@ -75,14 +76,18 @@ slip_after slip segment (Ok records) = marked slip segment
 slip_after slip segment (Err f) = slip
 
 -- it is answered the counts of its words and of its INTRA macroblocks
-abbrev pub counted : List ℕ → Result (List Macroblock) PictureFault → Result Delivered PictureFault
-counted bytes read = and_then (λ f. f) read (λ records. Ok (delivered_of bytes records))
+abbrev pub delivery_answered : List ℕ → Result (List Macroblock) PictureFault → Result Delivered PictureFault
+delivery_answered bytes read = and_then (λ f. f) read (λ records. Ok (delivered_of bytes records))
 
 -- and it rebuilds its segment, or changes nothing
 abbrev pub held_after : (List ℤ → ℕ → ℕ → ℤ) → Slip → ℕ → Result (List Macroblock) PictureFault → Held → Held
 held_after meaning slip segment (Ok records) held =
     segment_rebuilt meaning (segment_at slip.reel.format slip.layout segment) slip.rounding records held
 held_after meaning slip segment (Err f) held = held
+
+-- the places of a segment that was not accepted; one that was has none
+abbrev pub gap_at : Slip → ℕ → ℕ → ℕ → ℕ → Bool
+gap_at slip number = λ q u v. not (has_bit slip.accepted number) && covers (segment_at slip.reel.format slip.layout number) q u v
 
 -- closing gives the resting reel, whose finished picture is the one that was open, and the marks; a refusal hands the slip back
 abbrev pub closed : Slip → Result (Unit {0}) PictureFault → Result (Reel × ℕ) (Slip × PictureFault)
@@ -94,6 +99,6 @@ held_closed slip (Ok _) held = picture_closed slip.reel.format slip.kind slip.la
 held_closed slip (Err f) held = held
 
 -- a question is answered the value that it asks for
-abbrev pub shown : Result (Unit {0}) PictureFault → ℕ → Result ℕ PictureFault
-shown (Ok _) value = Ok value
-shown (Err f) value = Err f
+abbrev pub value_or_fault : Result (Unit {0}) PictureFault → ℕ → Result ℕ PictureFault
+value_or_fault (Ok _) value = Ok value
+value_or_fault (Err f) value = Err f

@@ -1,12 +1,11 @@
 // Closing a picture.
-ghost use Rattle.std.specs.Prelude.{◌≡◌, ℕ, true, not, ◌&&◌, length, if◌then◌else◌, IfErr, MatchResult};
+ghost use Rattle.std.specs.Prelude.{◌≡◌, ℕ, true, length, if◌then◌else◌, IfErr, MatchResult};
 ghost use Rattle.pictures.specs.Formats.{columns_of, rows_of};
-ghost use Rattle.pictures.specs.Pictures.{covers, painted};
-ghost use Rattle.pictures.specs.Segments.{has_bit, segment_at};
+ghost use Rattle.pictures.specs.Pictures.{painted};
 ghost use Rattle.calls.specs.Effects.{fill_age, fill_sample, filled_ages, filled_picture, missing, picture_closed};
 ghost use Rattle.calls.specs.Held.{cells_of, fits};
 ghost use Rattle.calls.specs.Questions.{judge_closing};
-ghost use Rattle.reel.specs.Calls.{closed, held_closed};
+ghost use Rattle.reel.specs.Calls.{closed, gap_at, held_closed};
 ghost use Rattle.reel.specs.Memories.{held_in};
 
 use crate::memory::Memory;
@@ -41,7 +40,7 @@ impl Slip {
     // Sets the samples of a segment that was not accepted: grey in an INTRA picture, those of the finished picture in an INTER one. One that was
     // accepted stays.
     fn fill_gap<S: Store>(&self, number: u32, finished: &S, working: &mut S)
-        ensures { S.picture working.new ≡ painted (λ q u v. not (has_bit self.now.accepted number) && covers (segment_at self.now.reel.format self.now.layout number) q u v) (fill_sample self.now.kind (S.picture finished.now)) (S.picture working.old) }
+        ensures { S.picture working.new ≡ painted (gap_at self.now number) (fill_sample self.now.kind (S.picture finished.now)) (S.picture working.old) }
     {
         if self.is_accepted(number) {
             return;

@@ -7,7 +7,7 @@ ghost use Rattle.rebuild.specs.Rebuilt.{Spans, accepted, count_of, width_of};
 ghost use Rattle.calls.specs.Effects.{segment_rebuilt};
 ghost use Rattle.calls.specs.Held.{fits};
 ghost use Rattle.calls.specs.Questions.{judge_delivery};
-ghost use Rattle.reel.specs.Calls.{counted, held_after, judged, marked, slip_after};
+ghost use Rattle.reel.specs.Calls.{delivery_answered, held_after, judged, marked, slip_after};
 ghost use Rattle.reel.specs.Memories.{held_in};
 
 use crate::memory::Memory;
@@ -96,7 +96,7 @@ impl Slip {
         segment: u32,
         bytes: &[u8],
     ) -> Result<Delivered, PictureFault>
-        ensures { result ≡ counted bytes.now (judged self.now (held_in S.picture memory.now) segment bytes.now) }
+        ensures { result ≡ delivery_answered bytes.now (judged self.now (held_in S.picture memory.now) segment bytes.now) }
     {
         if !memory.fits(self.reel.format) {
             return Err(PictureFault::Size);
@@ -122,7 +122,7 @@ impl Slip {
         bytes: &[u8],
     ) -> (Slip, Result<Delivered, PictureFault>)
         ensures slip { result.0 ≡ slip_after self segment (judged self (held_in S.picture memory.old) segment bytes.now) }
-        ensures answer { result.1 ≡ counted bytes.now (judged self (held_in S.picture memory.old) segment bytes.now) }
+        ensures answer { result.1 ≡ delivery_answered bytes.now (judged self (held_in S.picture memory.old) segment bytes.now) }
         ensures memory { held_in S.picture memory.new ≡ held_after (T.meaning transform.now) self segment (judged self (held_in S.picture memory.old) segment bytes.now) (held_in S.picture memory.old) }
         ensures untouched { IfErr result.1 (λ _. memory.new ≡ memory.old) }
         ensures format { result.0.reel.format ≡ self.reel.format }

@@ -3,7 +3,7 @@ ghost use Rattle.std.specs.Prelude.{◌≡◌, true, IfOk, MatchResult};
 ghost use Rattle.pictures.specs.Formats.{numbered};
 ghost use Rattle.calls.specs.Held.{fits};
 ghost use Rattle.calls.specs.Questions.{judge_opening};
-ghost use Rattle.reel.specs.Calls.{granted, judge_layout, kind_read, new_reel, opened};
+ghost use Rattle.reel.specs.Calls.{opened_kind, judge_layout, kind_read, new_reel, opened};
 ghost use Rattle.reel.specs.Memories.{held_in};
 
 use crate::memory::Memory;
@@ -62,7 +62,7 @@ impl Reel {
         rounding: u32,
         layout: u32,
     ) -> Result<(PictureKind, Rounding), PictureFault>
-        ensures { result ≡ granted kind rounding (judge_opening (fits self.now.format (held_in S.picture memory.now)) self.now.format self.now.pictures self.now.finished kind rounding layout) }
+        ensures { result ≡ opened_kind kind rounding (judge_opening (fits self.now.format (held_in S.picture memory.now)) self.now.format self.now.pictures self.now.finished kind rounding layout) }
     {
         if !memory.fits(self.format) {
             return Err(PictureFault::Size);

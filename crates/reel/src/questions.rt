@@ -4,7 +4,7 @@ ghost use Rattle.pictures.specs.Formats.{columns_of, rows_of};
 ghost use Rattle.calls.specs.Effects.{age_at};
 ghost use Rattle.calls.specs.Held.{fits_store, fits_table};
 ghost use Rattle.calls.specs.Questions.{in_grid, judge_age, judge_sample};
-ghost use Rattle.reel.specs.Calls.{shown};
+ghost use Rattle.reel.specs.Calls.{value_or_fault};
 
 use crate::memory::{fits_store, fits_table};
 use crate::reels::Reel;
@@ -28,7 +28,7 @@ impl Reel {
         across: u32,
         down: u32,
     ) -> Result<u8, PictureFault>
-        ensures { result ≡ shown (judge_sample (fits_store self.now.format (S.picture finished.now)) self.now.format self.now.finished plane across down) ((S.picture finished.now).sample plane across down) }
+        ensures { result ≡ value_or_fault (judge_sample (fits_store self.now.format (S.picture finished.now)) self.now.format self.now.finished plane across down) ((S.picture finished.now).sample plane across down) }
     {
         if !fits_store(self.format, finished) {
             return Err(PictureFault::Size);
@@ -46,7 +46,7 @@ impl Reel {
 
     // An age of the finished picture, of which the ages are given: by column and row.
     pub fn age(&self, ages: &[u8], column: u32, row: u32) -> Result<u8, PictureFault>
-        ensures { result ≡ shown (judge_age (fits_table self.now.format ages.now) self.now.format self.now.finished column row) (age_at self.now.format ages.now column row) }
+        ensures { result ≡ value_or_fault (judge_age (fits_table self.now.format ages.now) self.now.format self.now.finished column row) (age_at self.now.format ages.now column row) }
     {
         if !fits_table(self.format, ages) {
             return Err(PictureFault::Size);

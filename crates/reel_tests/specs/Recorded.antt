@@ -1,11 +1,15 @@
 -- A picture of one segment: opened, delivered and closed.
 use Rattle.std.specs.Prelude.{ℕ, List, ℤ, Some, Ok, Err, Result}
 use Rattle.calls.specs.declared.faults.PictureFault.{PictureFault}
-use Rattle.calls.specs.Held.{Held}
-use Rattle.calls.specs.Questions.{passed}
+use Rattle.calls.specs.Held.{Held, fits}
+use Rattle.calls.specs.Questions.{judge_opening, passed}
 use Rattle.reel.specs.declared.reels.Reel.{Reel}
 use Rattle.reel.specs.declared.reels.Slip.{Slip}
-use Rattle.reel.specs.Calls.{held_after, held_closed, judged, slip_after}
+use Rattle.reel.specs.Calls.{held_after, held_closed, judged, opened, slip_after}
+
+-- the opening of a picture of a kind, rounded up, whose one segment begins at row 0
+abbrev pub opened_whole : Reel → ℕ → Held → Result (Slip × ℕ) (Reel × PictureFault)
+opened_whole reel kind held = opened reel kind 0 1 (judge_opening (fits reel.format held) reel.format reel.pictures reel.finished kind 0 1)
 
 -- what the memory holds then: what closing makes of what the delivery made; where the opening is refused, what it held
 abbrev pub recorded : (List ℤ → ℕ → ℕ → ℤ) → List ℕ → Held → Result (Slip × ℕ) (Reel × PictureFault) → Held

@@ -1,13 +1,10 @@
 // What no script of calls can reach: memory of a wrong size, the picture limit, and a slip that a refused closing hands back. And a caller of the
-// library in the form that a station would have: the slip goes from call to call and is handed in at the end.
+// library as one would write it: the slip goes from call to call and is handed in at the end.
 #![tactic(auto)]
 
 ghost use Rattle.std.specs.Prelude.{◌≡◌};
-ghost use Rattle.calls.specs.Held.{fits};
-ghost use Rattle.calls.specs.Questions.{judge_opening};
-ghost use Rattle.reel.specs.Calls.{opened};
 ghost use Rattle.reel.specs.Memories.{held_in};
-ghost use Rattle.reel_tests.specs.Recorded.{recorded, rested};
+ghost use Rattle.reel_tests.specs.Recorded.{opened_whole, recorded, rested};
 
 use pictures::Store;
 use reel::memory::Memory;
@@ -26,8 +23,8 @@ pub fn record_picture<S: Store, T: Transform>(
     kind: u32,
     bytes: &[u8],
 ) -> Reel
-    ensures reel { result ≡ rested bytes.now (held_in S.picture memory.old) (opened reel kind 0 1 (judge_opening (fits reel.format (held_in S.picture memory.old)) reel.format reel.pictures reel.finished kind 0 1)) }
-    ensures memory { held_in S.picture memory.new ≡ recorded (T.meaning transform.now) bytes.now (held_in S.picture memory.old) (opened reel kind 0 1 (judge_opening (fits reel.format (held_in S.picture memory.old)) reel.format reel.pictures reel.finished kind 0 1)) }
+    ensures reel { result ≡ rested bytes.now (held_in S.picture memory.old) (opened_whole reel kind (held_in S.picture memory.old)) }
+    ensures memory { held_in S.picture memory.new ≡ recorded (T.meaning transform.now) bytes.now (held_in S.picture memory.old) (opened_whole reel kind (held_in S.picture memory.old)) }
 {
     match reel.open(memory, kind, 0, 1) {
         Ok((slip, _)) => {

@@ -13,7 +13,7 @@ use Rattle.calls.specs.declared.answers.Call.TheVariants.{Deliver as delivering}
 use Rattle.reel.specs.declared.reels.Slip.{Slip}
 use Rattle.replay.specs.declared.Stage.{Stage}
 use Rattle.replay.specs.declared.Stage.TheVariants.{Open}
-use Rattle.reel.specs.Calls.{counted, held_after, judged, slip_after}
+use Rattle.reel.specs.Calls.{delivery_answered, held_after, judged, slip_after}
 use Rattle.replay.specs.Stages.{format_of, setting_at, spent_of, state_of, writes}
 
 pub record Turn (meaning : List ℤ → ℕ → ℕ → ℤ) (stage : Stage) (held : Held) (c : Calling) (stage' : Stage) (held' : Held) (a : Answer) : Type 0 where
@@ -41,7 +41,7 @@ unwritten (Err f) a P e h none = h
 
 module _ (meaning : List ℤ → ℕ → ℕ → ℤ) (held : Held) where
   pub turn_deliver : (slip slip' : Slip) (segment : ℕ) (bytes : List ℕ) (held' : Held) (given : Result Delivered PictureFault) (a : Answer) (v : Result (List Macroblock) PictureFault)
-      → judged slip held segment bytes ≡ v → slip' ≡ slip_after slip segment v → given ≡ counted bytes v → a ≡ answer_by answer.Delivered given → held' ≡ held_after meaning slip segment v held
+      → judged slip held segment bytes ≡ v → slip' ≡ slip_after slip segment v → given ≡ delivery_answered bytes v → a ≡ answer_by answer.Delivered given → held' ≡ held_after meaning slip segment v held
       → Turn meaning (Open slip) held (delivering segment bytes) (Open slip') held' a
   turn_deliver slip slip' segment bytes held' given a (Ok records) j s d e h =
       record {

@@ -1,10 +1,12 @@
 -- A reel at rest or with a picture open, as runs have it.
-use Rattle.std.specs.Prelude.{◌≡◌, ℕ, Bool, true, false, List, ℤ, Ok, Err, Result, All}
+use Rattle.std.specs.Prelude.{◌≡◌, ℕ, Bool, true, false, List, length, take, ℤ, Ok, Err, Result, All}
+use denote.Ref.{Bor}
 use Rattle.pictures.specs.declared.formats.Format.{Format}
 use Rattle.calls.specs.Held.{Held}
 use Rattle.calls.specs.Laws.{granted}
-use Rattle.calls.specs.Runs.{Calling, Control, control, open_to, replies, resting, run, Setting, setting_of, State}
+use Rattle.calls.specs.Runs.{Calling, Control, calls_of, control, open_to, replies, reply, resting, run, Setting, setting_of, State, step}
 use Rattle.calls.specs.declared.answers.Answer.{Answer}
+use Rattle.calls.specs.declared.answers.Call.{Call}
 use Rattle.calls.specs.declared.answers.Answer.TheVariants.{Opened, Delivered, Closed, Sample, Age, Refused, OutOfTurn}
 use Rattle.calls.specs.declared.faults.PictureFault.{PictureFault}
 use Rattle.reel.specs.declared.reels.Reel.{Reel}
@@ -39,6 +41,17 @@ state_of stage held = record { state = control_of stage; contents = record { acc
 
 abbrev pub setting_at : Stage → (List ℤ → ℕ → ℕ → ℤ) → Held → Setting
 setting_at stage meaning held = setting_of (format_of stage) meaning held
+
+-- the state after a call, and its answer, by a transform of a meaning
+abbrev pub state_after : (List ℤ → ℕ → ℕ → ℤ) → Stage → Held → Calling → State
+state_after meaning stage held call = step (setting_at stage meaning held) (state_of stage held) call
+
+abbrev pub reply_to : (List ℤ → ℕ → ℕ → ℤ) → Stage → Held → Calling → Answer
+reply_to meaning stage held call = reply (setting_at stage meaning held) (state_of stage held) call
+
+-- the calls of a list for whose answers there is room
+abbrev pub calls_with_room : List Answer → List (Call (Bor (List ℕ))) → List Calling
+calls_with_room room calls = calls_of (take (length room) calls)
 
 -- what a call gives, as a stage and an answer
 abbrev pub open_turn : Result (Slip × ℕ) (Reel × PictureFault) → Stage × Answer

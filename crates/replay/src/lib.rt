@@ -4,9 +4,9 @@
 ghost use Rattle.std.specs.Prelude.{◌≡◌, false, drop, length, take};
 ghost use Rattle.calls.specs.Held.{fits};
 ghost use Rattle.calls.specs.Laws.{LawOverRuns, granted};
-ghost use Rattle.calls.specs.Runs.{call_of, calls_of, reply, step as stepped};
+ghost use Rattle.calls.specs.Runs.{call_of};
 ghost use Rattle.reel.specs.Memories.{held_in};
-ghost use Rattle.replay.specs.Stages.{NoneWrites, Replayed, answer_to, close_turn, format_of, open_turn, reel_of, setting_at, spent_of, state_of, writes};
+ghost use Rattle.replay.specs.Stages.{NoneWrites, Replayed, answer_to, calls_with_room, close_turn, format_of, open_turn, reel_of, reply_to, spent_of, state_after, state_of, writes};
 
 use calls::answers::{Answer, Call};
 use calls::faults::PictureFault;
@@ -67,8 +67,8 @@ pub fn step<S: Store, T: Transform>(
     transform: &T,
     call: &Call<&[u8]>,
 ) -> (Stage, Answer)
-    ensures state { state_of result.0 (held_in S.picture memory.new) ≡ stepped (setting_at stage (T.meaning transform.now) (held_in S.picture memory.old)) (state_of stage (held_in S.picture memory.old)) (call_of call.now) }
-    ensures answer { result.1 ≡ reply (setting_at stage (T.meaning transform.now) (held_in S.picture memory.old)) (state_of stage (held_in S.picture memory.old)) (call_of call.now) }
+    ensures state { state_of result.0 (held_in S.picture memory.new) ≡ state_after (T.meaning transform.now) stage (held_in S.picture memory.old) (call_of call.now) }
+    ensures answer { result.1 ≡ reply_to (T.meaning transform.now) stage (held_in S.picture memory.old) (call_of call.now) }
     ensures format { format_of result.0 ≡ format_of stage }
     ensures unspent { spent_of stage ≡ false → spent_of result.0 ≡ false }
     ensures stays { granted result.1 ≡ false → result.0 ≡ stage }
@@ -125,7 +125,7 @@ pub fn replay<S: Store, T: Transform>(
     calls: &[Call<&[u8]>],
     answers: &mut [Answer],
 ) -> Stage
-    ensures runs { Replayed (T.meaning transform.now) stage (held_in S.picture memory.old) (calls_of (take (length answers.old) calls.now)) result (held_in S.picture memory.new) (take (length calls.now) answers.new) }
+    ensures runs { Replayed (T.meaning transform.now) stage (held_in S.picture memory.old) (calls_with_room answers.old calls.now) result (held_in S.picture memory.new) (take (length calls.now) answers.new) }
     ensures rest { drop (length calls.now) answers.new ≡ drop (length calls.now) answers.old }
     ensures untouched { NoneWrites (take (length calls.now) answers.new) → memory.new ≡ memory.old }
     ensures format { format_of result ≡ format_of stage }

@@ -2,6 +2,7 @@ use Rattle.std.proofs.Common.{◌≡◌, ℕ, ◌+◌, ◌<◌, false, List, [],
 use Rattle.std.proofs.lemmas.List.{drop-drop, drop-set-lt, drop_all, drop_min, drop_more, take_min, take_more_set}
 use Rattle.std.proofs.lemmas.List.Elements.{All-pop}
 use Rattle.calls.specs.declared.answers.Answer.{Answer}
+use denote.Ref.{Bor}
 use Rattle.calls.specs.declared.answers.Call.{Call}
 use Rattle.calls.specs.declared.answers.Call.TheVariants.{Open}
 use Rattle.calls.specs.Runs.{calls_of}
@@ -46,7 +47,7 @@ returns g c =
     let same : min (length calls) (length answers) ≡ min (length calls) (length c.args.answers.now) = omega arith in
     let front : take i answers ≡ take (length calls) answers = ap (λ k. take k answers) all ∙ take_min (length calls) answers in
     let done = all_done _ _ _ _ _ _ _ _ was.left (ap calls_of (drop_all i made c.loop-index-test.false)) in
-    let P : List Call → List Answer → Type 0 = λ cs told.
+    let P : List (Call (Bor (List ℕ))) → List Answer → Type 0 = λ cs told.
     Replayed (g.T.Transform.meaning c.args.transform.now) c.args.stage (held_in g.S.Store.picture c.args.memory.now) (calls_of cs) c.loop-index.stage (held_in g.S.Store.picture c.loop-index.memory) told in
     record {
       runs = subst (λ cs. P cs (take (length calls) answers)) c.with_room-made.ensures (subst (P made) front done);
