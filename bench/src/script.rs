@@ -9,6 +9,8 @@ use std::fmt::Write;
 /// Makes a reel, or refuses.
 pub type Maker<'a> = &'a dyn Fn(Beginning) -> Result<Box<dyn Calls>, Answer>;
 
+const NUMBER_WANTED: &str = "a decimal number below 4294967296 is due";
+const MACROBLOCKS_WANTED: &str = "the number of macroblocks is a decimal number below 4294967296";
 const BYTES_WANTED: &str = "bytes are pairs of hexadecimal digits, or - for none";
 
 /// A line of a script that says something.
@@ -62,12 +64,12 @@ fn parse(line: &[u8]) -> Result<Option<Line>, &'static str> {
         b"sample" => Line::Sample(fields.number()?, fields.number()?, fields.number()?),
         b"age" => Line::Age(fields.number()?, fields.number()?),
         b"ages" => Line::Ages,
-        b"records" => Line::Records(fields.kind()?, fields.number()?, fields.bytes()?),
-        _ => return Err("there is no such call"),
+        b"records" => Line::Records(fields.kind()?, fields.macroblocks()?, fields.bytes()?),
+        _ => return Err("no such call"),
     };
     match fields.next() {
         None => Ok(Some(line)),
-        Some(_) => Err("a field is left over"),
+        Some(_) => Err("too many fields"),
     }
 }
 
@@ -92,11 +94,17 @@ impl<'a> Fields<'a> {
     }
 
     fn number(&mut self) -> Result<u32, &'static str> {
-        const WANTED: &str = "a number is decimal digits, and below 4294967296";
-        let digits = self.next().ok_or(WANTED)?;
-        digits.iter().try_fold(0u32, |number, digit| {
-            let digit = digit.is_ascii_digit().then(|| u32::from(digit - b'0')).ok_or(WANTED)?;
-            number.checked_mul(10).and_then(|number| number.checked_add(digit)).ok_or(WANTED)
+        self.decimal().ok_or(NUMBER_WANTED)
+    }
+
+    fn macroblocks(&mut self) -> Result<u32, &'static str> {
+        self.decimal().ok_or(MACROBLOCKS_WANTED)
+    }
+
+    fn decimal(&mut self) -> Option<u32> {
+        self.next()?.iter().try_fold(0u32, |number, digit| {
+            let digit = digit.is_ascii_digit().then(|| u32::from(digit - b'0'))?;
+            number.checked_mul(10)?.checked_add(digit)
         })
     }
 
@@ -104,7 +112,7 @@ impl<'a> Fields<'a> {
         match self.next() {
             Some(b"0") => Ok(PictureKind::Intra),
             Some(b"1") => Ok(PictureKind::Inter),
-            _ => Err("the kind is 0 or 1"),
+            _ => Err("the kind is 0 (INTRA) or 1 (INTER)"),
         }
     }
 
