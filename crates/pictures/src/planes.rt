@@ -40,8 +40,8 @@ pub trait Store {
     // The square of 8 by 8 samples from a place on, by rows, where the store has them at hand together, and else absence. A store that keeps neighbours
     // together may read them together.
     fn read_together(&self, plane: u8, across: usize, down: usize) -> Option<[u8; 64]>
-        requires columns { across ≤ 65535 }
-        requires rows { down ≤ 65535 }
+        requires columns { across ≤ 2000000 }
+        requires rows { down ≤ 2000000 }
         ensures { IfSome result (λ values. Square (picture self.now) plane across down values) }
     {
         None // no square at hand
@@ -49,8 +49,8 @@ pub trait Store {
 
     // Sets the square of 8 by 8 samples from a place on, where the store has them at hand together, and else none. Answers whether it did.
     fn write_together(&mut self, plane: u8, across: usize, down: usize, values: &[u8; 64]) -> bool
-        requires columns { across ≤ 65535 }
-        requires rows { down ≤ 65535 }
+        requires columns { across ≤ 2000000 }
+        requires rows { down ≤ 2000000 }
         ensures { picture self.new ≡ (if result then painted_square (picture self.old) plane across down values.now else picture self.old) }
     {
         false // no square at hand
@@ -58,8 +58,8 @@ pub trait Store {
 
     // The square of 8 by 8 samples from a place on, by rows, with 0 for those outside.
     fn read_square(&self, plane: u8, across: usize, down: usize) -> [u8; 64]
-        requires columns { across ≤ 65535 }
-        requires rows { down ≤ 65535 }
+        requires columns { across ≤ 2000000 }
+        requires rows { down ≤ 2000000 }
         ensures { Square (picture self.now) plane across down result }
     {
         if let Some(values) = self.read_together(plane, across, down) {
@@ -76,8 +76,8 @@ pub trait Store {
 
     // Sets the square of 8 by 8 samples from a place on, by rows, those inside, and no others.
     fn write_square(&mut self, plane: u8, across: usize, down: usize, values: &[u8; 64])
-        requires columns { across ≤ 65535 }
-        requires rows { down ≤ 65535 }
+        requires columns { across ≤ 2000000 }
+        requires rows { down ≤ 2000000 }
         ensures { picture self.new ≡ painted_square (picture self.old) plane across down values.now }
     {
         if self.write_together(plane, across, down, values) {
@@ -90,7 +90,7 @@ pub trait Store {
 
     // Eight samples of a row from a place on, where the store has them side by side, and else absence: as `read_together`, for one row.
     fn read_row_together(&self, plane: u8, across: usize, down: usize) -> Option<[u8; 8]>
-        requires { across ≤ 65535 }
+        requires { across ≤ 2000000 }
         ensures { IfSome result (λ eight. Eight (picture self.now) plane across down eight) }
     {
         None // no row at hand
@@ -104,7 +104,7 @@ pub trait Store {
         down: usize,
         values: &[u8; 8],
     ) -> bool
-        requires { across ≤ 65535 }
+        requires { across ≤ 2000000 }
         ensures { picture self.new ≡ (if result then painted_eight (picture self.old) plane across down values.now else picture self.old) }
     {
         false // no row at hand
@@ -112,7 +112,7 @@ pub trait Store {
 
     // Eight samples of a row from a place on, with 0 for those outside.
     fn read_eight(&self, plane: u8, across: usize, down: usize) -> [u8; 8]
-        requires { across ≤ 65535 }
+        requires { across ≤ 2000000 }
         ensures { Eight (picture self.now) plane across down result }
     {
         if let Some(eight) = self.read_row_together(plane, across, down) {
@@ -127,7 +127,7 @@ pub trait Store {
 
     // Sets eight samples of a row from a place on, those inside, and no others.
     fn write_eight(&mut self, plane: u8, across: usize, down: usize, values: &[u8; 8])
-        requires { across ≤ 65535 }
+        requires { across ≤ 2000000 }
         ensures { picture self.new ≡ painted_eight (picture self.old) plane across down values.now }
     {
         if self.write_row_together(plane, across, down, values) {

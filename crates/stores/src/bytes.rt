@@ -55,7 +55,7 @@ fn run_at(size: Size, plane: u8, across: usize, down: usize, right: usize) -> Op
 
 // Where eight samples of a row are kept from a place on, where all of them lie inside.
 fn eight_at(size: Size, plane: u8, across: usize, down: usize) -> Option<usize>
-    requires { across ≤ 65535 }
+    requires { across ≤ 2000000 }
     ensures { IfSome result (λ at. RunAt size.columns size.rows plane across down (across + 8) at 8) }
 {
     if !size.is_inside(plane, across + 7, down) {
@@ -85,8 +85,8 @@ fn set_eight_from(bytes: &mut [u8], at: usize, values: &[u8; 8])
 
 // Where the rows of a square of 8 by 8 samples are kept, where all of them lie inside: the first one's place, and how far each lies after the one above it.
 fn rows_at(size: Size, plane: u8, across: usize, down: usize) -> Option<(usize, usize)>
-    requires columns { across ≤ 65535 }
-    requires rows { down ≤ 65535 }
+    requires columns { across ≤ 2000000 }
+    requires rows { down ≤ 2000000 }
     ensures { IfSome result (λ rows. RowsAt size.columns size.rows plane across down rows.0 rows.1) }
 {
     if !size.is_inside(plane, across + 7, down + 7) {
@@ -136,8 +136,8 @@ fn set_square(
     down: usize,
     values: &[u8; 64],
 ) -> bool
-    requires columns { across ≤ 65535 }
-    requires rows { down ≤ 65535 }
+    requires columns { across ≤ 2000000 }
+    requires rows { down ≤ 2000000 }
     requires room { size.columns * size.rows * 384 ≤ length bytes.old }
     ensures { let seen = bytes_seen size.columns size.rows in seen bytes.new ≡ (if result then painted_square (seen bytes.old) plane across down values.now else seen bytes.old) }
 {

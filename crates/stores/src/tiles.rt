@@ -67,8 +67,8 @@ fn word_at(size: Size, plane: u8, across: usize, down: usize, right: usize) -> O
 
 // Whether a square of 8 by 8 samples lies inside and words begin at its left side.
 fn is_of_words(size: Size, plane: u8, across: usize, down: usize) -> bool
-    requires columns { across ≤ 65535 }
-    requires rows { down ≤ 65535 }
+    requires columns { across ≤ 2000000 }
+    requires rows { down ≤ 2000000 }
     ensures { result ≡ true → SquareAt size.columns size.rows plane across down }
 {
     across % 4 == 0 && size.is_inside(plane, across + 7, down + 7)
@@ -91,8 +91,8 @@ fn set_square(
     down: usize,
     values: &[u8; 64],
 )
-    requires columns { across ≤ 65535 }
-    requires rows { down ≤ 65535 }
+    requires columns { across ≤ 2000000 }
+    requires rows { down ≤ 2000000 }
     requires square { SquareAt size.columns size.rows plane across down }
     requires room { size.columns * size.rows * 96 ≤ length words.old }
     ensures { let seen = tiles_seen size.columns size.rows in seen words.new ≡ painted_square (seen words.old) plane across down values.now }
@@ -106,7 +106,7 @@ fn set_square(
 // Sets eight samples of a row that lie inside and at whose left end a word begins.
 fn set_eight(words: &mut [u32], size: Size, plane: u8, across: usize, down: usize, values: &[u8; 8])
     requires begins { across % 4 ≡ 0 }
-    requires small { across ≤ 65535 }
+    requires small { across ≤ 2000000 }
     requires inside { inside size.columns size.rows plane (across + 7) down ≡ true }
     requires room { size.columns * size.rows * 96 ≤ length words.old }
     ensures { let seen = tiles_seen size.columns size.rows in seen words.new ≡ painted_eight (seen words.old) plane across down values.now }
@@ -144,7 +144,7 @@ fn eight_of(left: u32, right: u32) -> [u8; 8]
 
 // Eight samples of a row that lie inside, from any place on: those of two words, or of three.
 fn eight_from(words: &[u32], size: Size, plane: u8, across: usize, down: usize) -> [u8; 8]
-    requires small { across ≤ 65535 }
+    requires small { across ≤ 2000000 }
     requires inside { inside size.columns size.rows plane (across + 7) down ≡ true }
     requires room { size.columns * size.rows * 96 ≤ length words.now }
     ensures { Eight (tiles_seen size.columns size.rows words.now) plane across down result }
@@ -158,8 +158,8 @@ fn eight_from(words: &[u32], size: Size, plane: u8, across: usize, down: usize) 
 
 // A square of 8 by 8 samples that lies inside, from any place on.
 fn square_from(words: &[u32], size: Size, plane: u8, across: usize, down: usize) -> [u8; 64]
-    requires columns { across ≤ 65535 }
-    requires rows { down ≤ 65535 }
+    requires columns { across ≤ 2000000 }
+    requires rows { down ≤ 2000000 }
     requires inside { inside size.columns size.rows plane (across + 7) (down + 7) ≡ true }
     requires room { size.columns * size.rows * 96 ≤ length words.now }
     ensures { Square (tiles_seen size.columns size.rows words.now) plane across down result }
