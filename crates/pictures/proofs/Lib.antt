@@ -1,5 +1,4 @@
 pub mod Rows
 pub mod Painting
 pub mod Addresses
-pub mod Eights
 pub mod Squares

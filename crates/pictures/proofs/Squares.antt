@@ -1,13 +1,12 @@
 -- The 64 samples of a square, one after the other by rows.
-use Rattle.std.proofs.Common.{◌≡◌, ℕ, ◌+◌, ◌-◌, ◌*◌, ◌/◌, ◌%◌, ◌<◌, ◌≤◌, Bool, false, ◌&&◌, ◌||◌, ltb, List, get_or, sym, refl, ap, ◌∙◌, arith}
+use Rattle.std.proofs.Common.{◌≡◌, ℕ, ◌+◌, ◌-◌, ◌*◌, ◌/◌, ◌%◌, ◌<◌, ◌≤◌, Bool, false, ◌&&◌, ◌||◌, ltb, List, length, get_or, sym, refl, ap, ◌∙◌, arith}
 use Rattle.std.proofs.lemmas.Bool.Decides.{nat_tests}
 use Rattle.pictures.specs.Pictures.{Picture, here, painted, painted_square, span, square_at, written}
 use Rattle.pictures.proofs.Painting.{alike, block, block_more, block_none, none, step}
-use Rattle.pictures.proofs.Eights.{FilledOf}
 
--- a loop that fills an array of 64 has come to place n
+-- a loop that writes f k at each place k of an array of 64 has come to place n
 abbrev pub Filled : (ℕ → ℕ) → ℕ → List ℕ → Type 0
-Filled f n xs = FilledOf 64 f n xs
+Filled f n xs = (length xs ≡ 64) × ((k : ℕ) → k < n → get_or xs k 0 ≡ f k)
 
 -- the places of a square before its place n
 unfoldable pub square_up_to : ℕ → ℕ → ℕ → ℕ → ℕ → ℕ → ℕ → Bool

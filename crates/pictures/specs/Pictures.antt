@@ -50,14 +50,6 @@ covers s q u v = nat_le (s.left * side q) u && (nat_lt u (s.right * side q) && (
 abbrev pub written : Picture → ℕ → ℕ → ℕ → ℕ → Picture
 written f p x y value = painted (here p x y) (λ _ _ _. value) f
 
--- eight samples of a row of plane p, from x on
-abbrev pub Eight : Picture → ℕ → ℕ → ℕ → List ℕ → Type 0
-Eight f p x y eight = (i : ℕ) → i < 8 → slice_index eight i ≡ f.sample p (x + i) y
-
--- the picture after a writing of eight samples of a row, from x on: of these places those inside have the values
-abbrev pub painted_eight : Picture → ℕ → ℕ → ℕ → List ℕ → Picture
-painted_eight f p x y values = painted (span p y x (x + 8)) (λ _ u _. slice_index values (u - x)) f
-
 -- the places of the square of 8 by 8 in plane p from x and y on
 unfoldable pub square_at : ℕ → ℕ → ℕ → ℕ → ℕ → ℕ → Bool
 square_at p x y q u v = p == q && (nat_le x u && (nat_lt u (x + 8) && (nat_le y v && nat_lt v (y + 8))))

@@ -1,5 +1,5 @@
 ghost use Rattle.std.specs.Prelude.{◌≡◌, ℕ, ◌<◌, ◌≤◌, if◌then◌else◌, false, IfSome};
-ghost use Rattle.pictures.specs.Pictures.{Eight, Picture, Square, covers, has, inside, painted, painted_eight, painted_square, reading, side, span, start, written};
+ghost use Rattle.pictures.specs.Pictures.{Picture, Square, covers, has, inside, painted, painted_square, reading, side, span, start, written};
 
 use crate::layouts::Segment;
 
@@ -85,56 +85,6 @@ pub trait Store {
         }
         for (k, value) in values.iter().enumerate() {
             self.write(plane, across + k % 8, down + k / 8, *value);
-        }
-    }
-
-    // Eight samples of a row from a place on, where the store has them side by side, and else absence: as `read_together`, for one row.
-    fn read_row_together(&self, plane: u8, across: usize, down: usize) -> Option<[u8; 8]>
-        requires { across ≤ 2000000 }
-        ensures { IfSome result (λ eight. Eight (picture self.now) plane across down eight) }
-    {
-        None // no row at hand
-    }
-
-    // Sets eight samples of a row from a place on, where the store has them side by side, and else none. Answers whether it did.
-    fn write_row_together(
-        &mut self,
-        plane: u8,
-        across: usize,
-        down: usize,
-        values: &[u8; 8],
-    ) -> bool
-        requires { across ≤ 2000000 }
-        ensures { picture self.new ≡ (if result then painted_eight (picture self.old) plane across down values.now else picture self.old) }
-    {
-        false // no row at hand
-    }
-
-    // Eight samples of a row from a place on, with 0 for those outside.
-    fn read_eight(&self, plane: u8, across: usize, down: usize) -> [u8; 8]
-        requires { across ≤ 2000000 }
-        ensures { Eight (picture self.now) plane across down result }
-    {
-        if let Some(eight) = self.read_row_together(plane, across, down) {
-            return eight;
-        }
-        let mut eight = [0; 8];
-        for (i, sample) in eight.iter_mut().enumerate() {
-            *sample = self.sample(plane, across + i, down);
-        }
-        eight
-    }
-
-    // Sets eight samples of a row from a place on, those inside, and no others.
-    fn write_eight(&mut self, plane: u8, across: usize, down: usize, values: &[u8; 8])
-        requires { across ≤ 2000000 }
-        ensures { picture self.new ≡ painted_eight (picture self.old) plane across down values.now }
-    {
-        if self.write_row_together(plane, across, down, values) {
-            return;
-        }
-        for (i, value) in values.iter().enumerate() {
-            self.write(plane, across + i, down, *value);
         }
     }
 

@@ -6,7 +6,7 @@ use Rattle.std.proofs.Math.Nat.{add-mul}
 use Rattle.std.proofs.lemmas.Nat.{mul-add-lt}
 use Rattle.std.proofs.lemmas.Bool.{cases_eq, cases_lt, cond-true, eq-eqb, lt-ltb, ne_eqb}
 use Rattle.std.proofs.lemmas.Bool.Decides.{nat_tests}
-use Rattle.pictures.specs.Pictures.{covers, painted, painted_eight, side, span, start}
+use Rattle.pictures.specs.Pictures.{covers, painted, side, span, start}
 use Rattle.pictures.proofs.Addresses.{Within, within, is_within, Apart, of_span, same_digits, paints_run, paints_where}
 use Rattle.pictures.specs.declared.layouts.Segment.{Segment}
 use Rattle.tables.specs.Cells.{in_part}
@@ -203,34 +203,3 @@ pub zeros_small : (n k : ℕ) → get_or (replicate n 0) k 0 < 256
 zeros_small zero k = omega arith
 zeros_small (suc n) zero = omega arith
 zeros_small (suc n) (suc k) = zeros_small n k
-
--- eight bytes of a run are the samples of its places
-pub eight_seen : (columns rows p x y right at : ℕ) (bytes eight : List ℕ) → RunAt columns rows p x y right at 8
-    → ((i : ℕ) → i < 8 → get_or eight i 0 ≡ get_or bytes (at + i) 0) → ((i : ℕ) → get_or eight i 0 < 256)
-    → (i : ℕ) → i < 8 → get_or eight i 0 ≡ (bytes_seen columns rows bytes).sample p (x + i) y
-eight_seen columns rows p x y right at bytes eight run each small i h =
-    let w = within_row columns rows p x y 8 i (within columns rows p x y run.isin) run.in_row h in
-    let a : byte_address columns rows p (x + i) y ≡ at + i = beside columns rows p x y i ∙ ap (λ n. n + i) (sym run.from) in
-    sym (mod-eq_of_lt (small i)) ∙ ap (λ n. n % 256) (each i h) ∙ ap (byte_at bytes) (sym a) ∙ sym (cond-true _ _ _ (is_within columns rows p (x + i) y w))
-
-mod_cond : (b : Bool) (m n : ℕ) → cond b m n % 256 ≡ cond b (m % 256) (n % 256)
-mod_cond true m n = refl
-mod_cond false m n = refl
-
--- eight bytes of a run are set
-pub eight_set : (columns rows p x y right at : ℕ) (bytes values after : List ℕ) → RunAt columns rows p x y right at 8 → ((i : ℕ) → get_or values i 0 < 256)
-    → ((k : ℕ) → get_or after k 0 ≡ cond (leb at k && ltb k (at + 8)) (get_or values (k - at) 0) (get_or bytes k 0))
-    → bytes_seen columns rows after ≡ painted_eight (bytes_seen columns rows bytes) p x y values
-eight_set columns rows p x y right at bytes values after run small cells =
-    let w = within columns rows p x y run.isin in
-    paints_run columns rows (byte_address columns rows) (bytes_apart columns rows) (byte_at bytes) (byte_at after) (λ a. get_or values (a - at) 0 % 256) (λ _ u _. get_or values (u - x) 0) p x y 8
-    (record { within_row = λ d h. within_row columns rows p x y 8 d w run.in_row h; one_by_one = λ d h. beside columns rows p x y d })
-    (λ a. ap (λ n. n % 256) (cells a) ∙ mod_cond _ _ _ ∙ ap (λ n. cond (leb n a && ltb a (n + 8)) (get_or values (a - at) 0 % 256) (byte_at bytes a)) run.from)
-    (λ q u v i e.
-    let t = of_span p y x (x + 8) q u v e in
-    let back : x + (u - x) ≡ u = omega (arith, t.2) in
-    let there : byte_address columns rows q u v ≡ at + (u - x) =
-    ap (λ m. byte_address columns rows m u v) (sym t.0) ∙ ap (λ m. byte_address columns rows p u m) (sym t.1) ∙ ap (λ m. byte_address columns rows p m y) (sym back)
-    ∙ beside columns rows p x y (u - x) ∙ ap (λ n. n + (u - x)) (sym run.from) in
-    let same : byte_address columns rows q u v - at ≡ u - x = omega arith in
-    mod-eq_of_lt (small _) ∙ ap (λ n. get_or values n 0) same)

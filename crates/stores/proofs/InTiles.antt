@@ -1,5 +1,5 @@
 -- No two places of a tiled store have one tile_address, each tile_address lies in memory, and one lane of a word is set alone.
-use Rattle.std.proofs.Common.{◌≡◌, ℕ, zero, suc, ◌+◌, ◌-◌, ◌*◌, ◌/◌, ◌%◌, ◌<◌, ◌≤◌, Bool, true, false, cond, ◌&&◌, ◌||◌, eqb, ltb, leb, List, [], ◌∷◌, ◌++◌, ◌^◌, length, get_or, set, sym, refl, ap, ◌∙◌, ⊎_elim, mul-le-mul, arith}
+use Rattle.std.proofs.Common.{◌≡◌, ℕ, zero, suc, ◌+◌, ◌-◌, ◌*◌, ◌/◌, ◌%◌, ◌<◌, ◌≤◌, Bool, true, false, cond, ◌&&◌, ◌||◌, eqb, ltb, leb, List, [], ◌∷◌, ◌++◌, ◌^◌, length, get_or, set, sym, refl, ap, ◌∙◌, ⊎_elim, arith}
 use Rattle.std.proofs.lemmas.List.{get_or-set_same, get_or-set_other}
 use Rattle.std.proofs.Math.Nat.{mul-le-mul_right}
 use Rattle.std.proofs.lemmas.Nat.{mul-add-lt}
@@ -18,10 +18,6 @@ tile_below columns rows zero x y w = mul-add-lt (y / 16) columns (x / 16) rows (
 tile_below columns rows (suc zero) x y w = mul-add-lt (y / 8) columns (x / 8) rows (omega (arith, w.down)) (omega (arith, w.across))
 tile_below columns rows (suc (suc zero)) x y w = mul-add-lt (y / 8) columns (x / 8) rows (omega (arith, w.down)) (omega (arith, w.across))
 tile_below columns rows (suc (suc (suc p))) x y w = absurd (omega (arith, w.plane))
-
--- of which there are at most 396 in all
-pub tile_few : (columns rows p x y s : ℕ) → columns ≤ 22 → rows ≤ 18 → s ≡ side p → inside columns rows p x y ≡ true → y / s * columns + x / s < 396
-tile_few columns rows p x y s w h e isin = rw e (omega (arith, tile_below columns rows p x y (within columns rows p x y isin), mul-le-mul w h))
 
 pub sample_below : (p x y : ℕ) → p < 3 → start p + (y % side p * side p + x % side p) < 384
 sample_below zero x y l = omega arith

@@ -53,36 +53,6 @@ fn run_at(size: Size, plane: u8, across: usize, down: usize, right: usize) -> Op
     Some((at, end - across))
 }
 
-// Where eight samples of a row are kept from a place on, where all of them lie inside.
-fn eight_at(size: Size, plane: u8, across: usize, down: usize) -> Option<usize>
-    requires { across ≤ 2000000 }
-    ensures { IfSome result (λ at. RunAt size.columns size.rows plane across down (across + 8) at 8) }
-{
-    if !size.is_inside(plane, across + 7, down) {
-        return None;
-    }
-    Some(address(size, plane, across, down))
-}
-
-// The eight bytes from a place of a memory on.
-fn eight_from(bytes: &[u8], at: usize) -> [u8; 8]
-    requires { at + 8 ≤ length bytes.now }
-    ensures each { (i : ℕ) → i < 8 → slice_index result i ≡ slice_index bytes.now (at + i) }
-    ensures small { (i : ℕ) → slice_index result i < 256 }
-{
-    let mut eight = [0; 8];
-    eight.copy_from_slice(&bytes[at..at + 8]);
-    eight
-}
-
-// Sets the eight bytes from a place of a memory on, and no others.
-fn set_eight_from(bytes: &mut [u8], at: usize, values: &[u8; 8])
-    requires { at + 8 ≤ length bytes.old }
-    ensures { (k : ℕ) → slice_index bytes.new k ≡ (if nat_le at k && nat_lt k (at + 8) then slice_index values.now (k - at) else slice_index bytes.old k) }
-{
-    bytes[at..at + 8].copy_from_slice(values);
-}
-
 // Where the rows of a square of 8 by 8 samples are kept, where all of them lie inside: the first one's place, and how far each lies after the one above it.
 fn rows_at(size: Size, plane: u8, across: usize, down: usize) -> Option<(usize, usize)>
     requires columns { across ≤ 2000000 }
@@ -175,25 +145,6 @@ impl Store for ByteStore {
             return false;
         };
         self.memory[at] = value;
-        true
-    }
-
-    fn read_row_together(&self, plane: u8, across: usize, down: usize) -> Option<[u8; 8]> {
-        let at = eight_at(self.size, plane, across, down)?;
-        Some(eight_from(&self.memory, at))
-    }
-
-    fn write_row_together(
-        &mut self,
-        plane: u8,
-        across: usize,
-        down: usize,
-        values: &[u8; 8],
-    ) -> bool {
-        let Some(at) = eight_at(self.size, plane, across, down) else {
-            return false;
-        };
-        set_eight_from(&mut self.memory, at, values);
         true
     }
 

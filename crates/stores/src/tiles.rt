@@ -1,5 +1,5 @@
-ghost use Rattle.std.specs.Prelude.{◌≡◌, ℕ, ◌+◌, ◌-◌, ◌*◌, ◌/◌, ◌%◌, ◌<◌, ◌≤◌, ◌&&◌, [], ◌∷◌, ◌++◌, true, if◌then◌else◌, IfSome, length, nat_le, nat_lt, slice_index};
-ghost use Rattle.pictures.specs.Pictures.{Eight, Square, covers, inside, painted, painted_eight, painted_square};
+ghost use Rattle.std.specs.Prelude.{◌≡◌, ℕ, ◌+◌, ◌-◌, ◌*◌, ◌/◌, ◌%◌, ◌<◌, ◌≤◌, ◌&&◌, [], ◌∷◌, ◌++◌, true, if◌then◌else◌, IfSome, length, slice_index};
+ghost use Rattle.pictures.specs.Pictures.{Square, covers, inside, painted, painted_square};
 ghost use Rattle.stores.specs.Room.{LiesIn, Placed};
 ghost use Rattle.stores.specs.Tiles.{Row, SquareAt, WordAt, WordOf, column_word, four, joined, row_word, tile_address, tiles_seen};
 ghost use Rattle.std.proofs.Common.{rules};
@@ -103,20 +103,6 @@ fn set_square(
     }
 }
 
-// Sets eight samples of a row that lie inside and at whose left end a word begins.
-fn set_eight(words: &mut [u32], size: Size, plane: u8, across: usize, down: usize, values: &[u8; 8])
-    requires begins { across % 4 ≡ 0 }
-    requires small { across ≤ 2000000 }
-    requires inside { inside size.columns size.rows plane (across + 7) down ≡ true }
-    requires room { size.columns * size.rows * 96 ≤ length words.old }
-    ensures { let seen = tiles_seen size.columns size.rows in seen words.new ≡ painted_eight (seen words.old) plane across down values.now }
-{
-    for n in 0..2 {
-        let word = word_of(size, plane, across + 4 * n, down);
-        words[word] = word_from(values, 4 * n);
-    }
-}
-
 // The word that holds the sample of a place inside, with its neighbours.
 fn four_at(words: &[u32], size: Size, plane: u8, across: usize, down: usize) -> u32
     requires isin { inside size.columns size.rows plane across down ≡ true }
@@ -147,7 +133,7 @@ fn eight_from(words: &[u32], size: Size, plane: u8, across: usize, down: usize) 
     requires small { across ≤ 2000000 }
     requires inside { inside size.columns size.rows plane (across + 7) down ≡ true }
     requires room { size.columns * size.rows * 96 ≤ length words.now }
-    ensures { Eight (tiles_seen size.columns size.rows words.now) plane across down result }
+    ensures { Row (tiles_seen size.columns size.rows words.now) plane across down 8 result }
 {
     let first = four_at(words, size, plane, across, down);
     let second = four_at(words, size, plane, across + 4, down);
@@ -247,27 +233,6 @@ impl Store for TileStore {
         let mut four = self.memory[at / 4].to_be_bytes();
         four[at % 4] = value;
         self.memory[at / 4] = u32::from_be_bytes(four);
-        true
-    }
-
-    fn read_row_together(&self, plane: u8, across: usize, down: usize) -> Option<[u8; 8]> {
-        if !self.size.is_inside(plane, across + 7, down) {
-            return None;
-        }
-        Some(eight_from(&self.memory, self.size, plane, across, down))
-    }
-
-    fn write_row_together(
-        &mut self,
-        plane: u8,
-        across: usize,
-        down: usize,
-        values: &[u8; 8],
-    ) -> bool {
-        if across % 4 != 0 || !self.size.is_inside(plane, across + 7, down) {
-            return false;
-        }
-        set_eight(&mut self.memory, self.size, plane, across, down, values);
         true
     }
 

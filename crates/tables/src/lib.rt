@@ -52,13 +52,6 @@ pub fn put<T: Copy>(cells: &mut [T], place: usize, value: T) -> bool
     false
 }
 
-// Sets the first so many cells, those that there are, and no others.
-pub fn fill_front<T: Copy>(cells: &mut [T], count: usize, value: T)
-    ensures { (k : ℕ) (d : T) → slice_index_or cells.new k d ≡ (if in_part 0 count (length cells.old) k then value else slice_index_or cells.old k d) }
-{
-    fill_part(cells, 0, count, value);
-}
-
 // Sets so many cells from a place on, those that there are, and no others.
 pub fn fill_part<T: Copy>(cells: &mut [T], first: usize, count: usize, value: T)
     ensures { (k : ℕ) (d : T) → slice_index_or cells.new k d ≡ (if in_part first count (length cells.old) k then value else slice_index_or cells.old k d) }
