@@ -1,5 +1,5 @@
 -- A sweep paints places of a picture part by part: how what is painted grows.
-use Rattle.std.proofs.Common.{◌≡◌, ℕ, ◌+◌, ◌*◌, ◌≤◌, max, Bool, true, false, ◌&&◌, ◌||◌, eqb, ltb, leb, sym, refl, ap, ◌∙◌, ⊎_elim, zero-mul, arith}
+use Rattle.std.proofs.Common.{◌≡◌, ℕ, ◌+◌, ◌*◌, ◌<◌, ◌≤◌, max, Bool, true, false, ◌&&◌, ◌||◌, eqb, ltb, leb, sym, refl, ap, ◌∙◌, ⊎_elim, zero-mul, arith}
 use Rattle.std.proofs.lemmas.Bool.{cases_eq, ne_eqb}
 use Rattle.std.proofs.lemmas.Bool.Decides.{nat_tests}
 use Rattle.pictures.specs.declared.layouts.Segment.{Segment}
@@ -59,11 +59,11 @@ step done done' new f f₁ f₂ p x y value was wrote is grows =
     at q u v false e d i = simp e
 
 -- a row from left to x
-pub span_none : (p y left q u v : ℕ) → span p y left left q u v ≡ false
+span_none : (p y left q u v : ℕ) → span p y left left q u v ≡ false
 unfolding span
 span_none p y left q u v = grind (arith, nat_tests)
 
-pub span_more : (p y left x q u v : ℕ) → left ≤ x → span p y left (x + 1) q u v ≡ (here p x y q u v || span p y left x q u v)
+span_more : (p y left x q u v : ℕ) → left ≤ x → span p y left (x + 1) q u v ≡ (here p x y q u v || span p y left x q u v)
 unfolding span here
 span_more p y left x q u v h = grind (arith, nat_tests)
 
@@ -74,7 +74,7 @@ span_one new f f₂ p x y value wrote is =
     step (span p y x x) (span p y x (x + 1)) new f f f₂ p x y value (none _ _ _ (span_none p y x)) wrote is (λ q u v. span_more p y x x q u v (omega arith))
 
 -- a row's part from left to x, and the next from x to z
-pub span_join : (p y left x z q u v : ℕ) → left ≤ x → x ≤ z → span p y left z q u v ≡ (span p y x z q u v || span p y left x q u v)
+span_join : (p y left x z q u v : ℕ) → left ≤ x → x ≤ z → span p y left z q u v ≡ (span p y x z q u v || span p y left x q u v)
 unfolding span
 span_join p y left x z q u v h i = grind (arith, nat_tests)
 
@@ -82,9 +82,27 @@ span_join p y left x z q u v h i = grind (arith, nat_tests)
 until : (a b n v : ℕ) → a ≤ n → b ≤ n → n ≤ max a b → (leb a v && ltb v n) ≡ (leb a v && ltb v b)
 until a b n v h i j = grind (arith, nat_tests)
 
-pub span_all : (p y left right x q u v : ℕ) → left ≤ x → right ≤ x → x ≤ max left right → span p y left x q u v ≡ span p y left right q u v
+span_all : (p y left right x q u v : ℕ) → left ≤ x → right ≤ x → x ≤ max left right → span p y left x q u v ≡ span p y left right q u v
 unfolding span
 span_all p y left right x q u v h i j = ap (λ b. eqb p q && (eqb y v && b)) (until left right x u h i j)
+
+-- of a row that gets new samples from left to before right, run by run, those before x have them
+abbrev pub RowTo : (ℕ → ℕ → ℕ → ℕ) → Picture → Picture → ℕ → ℕ → ℕ → ℕ → ℕ → Type 0
+RowTo new f f₁ p y left right x = (f₁ ≡ painted (span p y left x) new f) × (left ≤ x) × (x ≤ max left right)
+
+pub row_begun : (new : ℕ → ℕ → ℕ → ℕ) (f : Picture) (p y left right : ℕ) → RowTo new f f p y left right left
+row_begun new f p y left right = (none _ _ _ (span_none p y left), omega arith, omega arith)
+
+pub row_more : (new : ℕ → ℕ → ℕ → ℕ) (f f₁ f₂ : Picture) (p y left right x z : ℕ) → RowTo new f f₁ p y left right x → (x < z) × (z ≤ right)
+    → f₂ ≡ painted (span p y x z) new f₁ → RowTo new f f₂ p y left right z
+row_more new f f₁ f₂ p y left right x z was next now = (
+  both (span p y left x) (span p y x z) (span p y left z) new f f₁ f₂ was.0 now (λ q u v. span_join p y left x z q u v was.1 (omega (arith, next.0))),
+  omega (arith, was.1, next.0),
+  omega (arith, next.1),
+)
+
+pub row_done : (new : ℕ → ℕ → ℕ → ℕ) (f f₁ : Picture) (p y left right x : ℕ) → RowTo new f f₁ p y left right x → right ≤ x → f₁ ≡ painted (span p y left right) new f
+row_done new f f₁ p y left right x was end = was.0 ∙ alike _ _ _ _ (λ q u v h. span_all p y left right x q u v was.1 end was.2)
 
 -- the rows of plane p from top to before y
 unfoldable pub block : ℕ → ℕ → ℕ → ℕ → ℕ → ℕ → ℕ → ℕ → Bool

@@ -38,7 +38,7 @@ pub trait Store {
     }
 
     // The square of 8 by 8 samples from a place on, by rows, where the store has them at hand together, and else absence. A store that keeps neighbours
-    // together may read them together.
+    // together may read them together. (The bounds, here and below, leave out no place of a rectangle of macroblocks: 65,535 by 16 samples.)
     fn read_together(&self, plane: u8, across: usize, down: usize) -> Option<[u8; 64]>
         requires columns { across ≤ 2000000 }
         requires rows { down ≤ 2000000 }

@@ -6,7 +6,7 @@ use Rattle.std.proofs.Math.Nat.{add-mul}
 use Rattle.std.proofs.lemmas.Nat.{mul-add-lt}
 use Rattle.std.proofs.lemmas.Bool.{cases_eq, cases_lt, cond-true, eq-eqb, lt-ltb, ne_eqb}
 use Rattle.std.proofs.lemmas.Bool.Decides.{nat_tests}
-use Rattle.pictures.specs.Pictures.{covers, painted, side, span, start}
+use Rattle.pictures.specs.Pictures.{covers, inside, painted, side, span, start}
 use Rattle.pictures.proofs.Addresses.{Within, within, is_within, Apart, of_span, same_digits, paints_run, paints_where}
 use Rattle.pictures.specs.declared.layouts.Segment.{Segment}
 use Rattle.tables.specs.Cells.{in_part}
@@ -72,39 +72,39 @@ run_kept columns rows p x y count w some le =
     let below = address_below columns rows p (x + last) y (within_row columns rows p x y count last w le lt) in
     omega (arith, below, beside columns rows p x y last)
 
--- a run of bytes is copied from a store of the same size
+-- a run of bytes is set to new ones
+run_painted : (columns rows p x y right at count size : ℕ) (bytes after : List ℕ) (byte : ℕ → ℕ) (new : ℕ → ℕ → ℕ → ℕ)
+    → RunAt columns rows p x y right at count → columns * rows * 384 ≤ size
+    → ((k : ℕ) → get_or after k 0 ≡ cond (in_part at count size k) (byte k) (get_or bytes k 0))
+    → ((q u v : ℕ) → inside columns rows q u v ≡ true → byte (byte_address columns rows q u v) % 256 ≡ new q u v)
+    → bytes_seen columns rows after ≡ painted (span p y x (x + count)) new (bytes_seen columns rows bytes)
+run_painted columns rows p x y right at count size bytes after byte new run room cells is =
+    let w = within columns rows p x y run.isin in
+    paints_run columns rows (byte_address columns rows) (bytes_apart columns rows) (byte_at bytes) (byte_at after) (λ a. byte a % 256) new p x y count
+    (record { within_row = λ d h. within_row columns rows p x y count d w run.in_row h; one_by_one = λ d h. beside columns rows p x y d })
+    (λ a. ap (λ n. n % 256) (cells a) ∙ tests at count size a (byte a) (get_or bytes a 0) (omega (arith, run.kept, room))
+    ∙ ap (λ n. cond (leb n a && ltb a (n + count)) (byte a % 256) (byte_at bytes a)) run.from)
+    (λ q u v i e. is q u v i)
+  where
+    tests : (at count size n x y : ℕ) → at + count ≤ size → cond (in_part at count size n) x y % 256 ≡ cond (leb at n && ltb n (at + count)) (x % 256) (y % 256)
+    tests at count size n x y h = grind (arith, nat_tests)
+
+-- copied from a store of the same size
 pub run_copied : (columns rows columns' rows' p x y right at count : ℕ) (bytes others after : List ℕ) → columns ≡ columns' → rows ≡ rows'
     → RunAt columns rows p x y right at count → columns * rows * 384 ≤ length bytes → columns * rows * 384 ≤ length others
     → ((k d : ℕ) → get_or after k d ≡ cond (in_part at count (min (length others) (length bytes)) k) (get_or others k d) (get_or bytes k d))
     → bytes_seen columns rows after ≡ painted (span p y x (x + count)) (bytes_seen columns' rows' others).sample (bytes_seen columns rows bytes)
 run_copied columns rows columns' rows' p x y right at count bytes others after c r run room room' cells =
-    let w = within columns rows p x y run.isin in
-    paints_run columns rows (byte_address columns rows) (bytes_apart columns rows) (byte_at bytes) (byte_at after) (byte_at others) (bytes_seen columns' rows' others).sample p x y count
-    (record { within_row = λ d h. within_row columns rows p x y count d w run.in_row h; one_by_one = λ d h. beside columns rows p x y d })
-    (λ a. ap (λ n. n % 256) (cells a 0) ∙ tests at count (length others) (length bytes) a (get_or others a 0) (get_or bytes a 0) (omega (arith, run.kept)) (omega (arith, run.kept))
-    ∙ ap (λ n. cond (leb n a && ltb a (n + count)) (byte_at others a) (byte_at bytes a)) run.from)
-    (λ q u v i e. rw (← c, ← r) (sym (cond-true _ _ _ i)))
-  where
-    tests : (at count from to n x y : ℕ) → at + count ≤ from → at + count ≤ to
-        → cond (in_part at count (min from to) n) x y % 256 ≡ cond (leb at n && ltb n (at + count)) (x % 256) (y % 256)
-    tests at count from to n x y h i = grind (arith, nat_tests)
+    run_painted columns rows p x y right at count (min (length others) (length bytes)) bytes after (λ k. get_or others k 0) (bytes_seen columns' rows' others).sample run (omega (arith, room, room')) (λ k. cells k 0)
+    (λ q u v i. rw (← c, ← r) (sym (cond-true _ _ _ i)))
 
--- a run of bytes is set to one value
+-- or to one value
 pub run_filled : (columns rows p x y right at count value : ℕ) (bytes after : List ℕ)
     → RunAt columns rows p x y right at count → value < 256 → columns * rows * 384 ≤ length bytes
     → ((k d : ℕ) → get_or after k d ≡ cond (in_part at count (length bytes) k) value (get_or bytes k d))
     → bytes_seen columns rows after ≡ painted (span p y x (x + count)) (λ _ _ _. value) (bytes_seen columns rows bytes)
 run_filled columns rows p x y right at count value bytes after run small room cells =
-    let w = within columns rows p x y run.isin in
-    paints_run columns rows (byte_address columns rows) (bytes_apart columns rows) (byte_at bytes) (byte_at after) (λ _. value) (λ _ _ _. value) p x y count
-    (record { within_row = λ d h. within_row columns rows p x y count d w run.in_row h; one_by_one = λ d h. beside columns rows p x y d })
-    (λ a. ap (λ n. n % 256) (cells a 0) ∙ tests at count (length bytes) a value (get_or bytes a 0) small (omega (arith, run.kept))
-    ∙ ap (λ n. cond (leb n a && ltb a (n + count)) value (byte_at bytes a)) run.from)
-    (λ q u v i e. refl)
-  where
-    tests : (at count to n x y : ℕ) → x < 256 → at + count ≤ to
-        → cond (in_part at count to n) x y % 256 ≡ cond (leb at n && ltb n (at + count)) x (y % 256)
-    tests at count to n x y h i = grind (arith, nat_tests)
+    run_painted columns rows p x y right at count (length bytes) bytes after (λ _. value) (λ _ _ _. value) run room (λ k. cells k 0) (λ q u v i. mod-eq_of_lt small)
 
 -- all bytes of a picture are taken from a store of the same size
 pub bytes_copied : (columns rows columns' rows' : ℕ) (s : Segment) (bytes others after : List ℕ) → columns ≡ columns' → rows ≡ rows' → Whole columns rows s

@@ -7,6 +7,7 @@ use Rattle.std.proofs.lemmas.Bool.{cases_eq, cond_both, cond-true, cond-false, c
 use Rattle.std.proofs.lemmas.Bool.Decides.{nat_tests}
 use Rattle.pictures.specs.declared.layouts.Segment.{Segment}
 use Rattle.pictures.specs.Pictures.{Picture, covers, inside, painted, side, span, start}
+use Rattle.pictures.proofs.Painting.{both, none}
 use Rattle.pictures.proofs.Addresses.{Within, within, is_within, Apart, Run, of_span, same_digits, paints_run, paints_where}
 use Rattle.tables.specs.Cells.{in_part}
 use Rattle.stores.specs.Room.{LiesIn}
@@ -348,14 +349,17 @@ word_with columns rows p x y b w words values word new small isin begins at l e 
 abbrev pub rows_to : Segment → ℕ → Segment
 rows_to s row = record { left = s.left; right = s.right; top = s.top; bottom = row }
 
-abbrev pub one_row : Segment → ℕ → Segment
+abbrev one_row : Segment → ℕ → Segment
 one_row s row = record { left = s.left; right = s.right; top = row; bottom = row + 1 }
 
-pub no_row : (s : Segment) (q u v : ℕ) → covers (rows_to s s.top) q u v ≡ false
+pub rows_none : (s : Segment) (new : ℕ → ℕ → ℕ → ℕ) (f : Picture) → f ≡ painted (covers (rows_to s s.top)) new f
 unfolding covers
-no_row s q u v = grind (arith, nat_tests)
+rows_none s new f = none _ _ _ no_row
+  where
+    no_row : (q u v : ℕ) → covers (rows_to s s.top) q u v ≡ false
+    no_row q u v = grind (arith, nat_tests)
 
-pub row_more : (s : Segment) (row q u v : ℕ) → s.top ≤ row → covers (rows_to s (row + 1)) q u v ≡ (covers (one_row s row) q u v || covers (rows_to s row) q u v)
+row_more : (s : Segment) (row q u v : ℕ) → s.top ≤ row → covers (rows_to s (row + 1)) q u v ≡ (covers (one_row s row) q u v || covers (rows_to s row) q u v)
 unfolding covers
 row_more s row q u v h =
     joins (leb (s.left * side q) u) (ltb u (s.right * side q)) (s.top * side q) (row * side q) ((row + 1) * side q) v (mul-le-mul_right (side q) h) (mul-le-mul_right (side q) (let l : row ≤ row + 1 = omega arith in l))
@@ -427,31 +431,30 @@ row_words columns rows row (suc (suc zero)) u v s w h i =
     ∙ number_in_row columns s.left s.right row (v / 8) (u / 8) (omega (arith, w.across)) h i ∙ by_eight s.left s.right row u v
 row_words columns rows row (suc (suc (suc q))) u v s w h i = absurd (omega (arith, w.plane))
 
--- the lanes of words some of which are set
-pub part_lanes : (first count size x a : ℕ) (words after : List ℕ) → a / 4 < size
-    → get_or after (a / 4) 0 ≡ cond (in_part first count size (a / 4)) x (get_or words (a / 4) 0)
-    → lane_at after a ≡ cond (leb first (a / 4) && ltb (a / 4) (first + count)) (get_or (four x) (a % 4) 0) (lane_at words a)
-part_lanes first count size x a words after l e =
-    ap (λ n. get_or (four n) (a % 4) 0) e ∙ each (in_part first count size (a / 4)) (get_or words (a / 4) 0)
-    ∙ ap (λ b. cond b (get_or (four x) (a % 4) 0) (lane_at words a)) (there first count size (a / 4) l)
+-- a row of macroblocks, whose words are set, has their samples; so have then the rows down to it, if those above it had
+pub rows_more : (columns rows row size : ℕ) (s : Segment) (words after : List ℕ) (word : ℕ → ℕ) (new : ℕ → ℕ → ℕ → ℕ) (f : Picture)
+    → LiesIn columns rows s → s.top ≤ row → columns * rows * 96 ≤ size
+    → ((k : ℕ) → get_or after k 0 ≡ cond (in_part ((row * columns + s.left) * 96) ((s.right - s.left) * 96) size k) (word k) (get_or words k 0))
+    → ((q u v : ℕ) → inside columns rows q u v ≡ true → get_or (four (word (tile_address columns q u v / 4))) (tile_address columns q u v % 4) 0 ≡ new q u v)
+    → tiles_seen columns rows words ≡ painted (covers (rows_to s row)) new f → tiles_seen columns rows after ≡ painted (covers (rows_to s (row + 1))) new f
+rows_more columns rows row size s words after word new f at le room step is was =
+    both (covers (rows_to s row)) (covers (one_row s row)) (covers (rows_to s (row + 1))) new f (tiles_seen columns rows words) (tiles_seen columns rows after) was
+    (paints_where columns rows (tile_address columns) (lane_at words) (lane_at after) (λ a. get_or (four (word (a / 4))) (a % 4) 0) (covers (one_row s row)) new
+    (λ q u v w.
+    let a : ℕ = tile_address columns q u v in
+    let k : a / 4 < size = omega (arith, address_below columns rows q u v w, room) in
+    ap (λ n. get_or (four n) (a % 4) 0) (step (a / 4))
+    ∙ lane (in_part ((row * columns + s.left) * 96) ((s.right - s.left) * 96) size (a / 4)) (word (a / 4)) (get_or words (a / 4) 0) (a % 4)
+    ∙ ap (λ b. cond b (get_or (four (word (a / 4))) (a % 4) 0) (lane_at words a)) (there _ _ size (a / 4) k ∙ row_words columns rows row q u v s w at.rightwards at.across))
+    (λ q u v i e. is q u v i))
+    (λ q u v. row_more s row q u v le)
   where
-    each : (b : Bool) (y : ℕ) → get_or (four (cond b x y)) (a % 4) 0 ≡ cond b (get_or (four x) (a % 4) 0) (get_or (four y) (a % 4) 0)
-    each true y = refl
-    each false y = refl
+    lane : (b : Bool) (x y n : ℕ) → get_or (four (cond b x y)) n 0 ≡ cond b (get_or (four x) n 0) (get_or (four y) n 0)
+    lane true x y n = refl
+    lane false x y n = refl
 
     there : (first count size k : ℕ) → k < size → in_part first count size k ≡ (leb first k && ltb k (first + count))
     there first count size k h = grind (arith, nat_tests)
 
--- a row of macroblocks is painted by its words
-pub row_painted : (columns rows row : ℕ) (s : Segment) (words after : List ℕ) (fresh : ℕ → ℕ) (new : ℕ → ℕ → ℕ → ℕ)
-    → LiesIn columns rows s → row < rows → columns * rows * 96 ≤ length words
-    → ((a : ℕ) → a / 4 < columns * rows * 96 → lane_at after a ≡ cond (leb ((row * columns + s.left) * 96) (a / 4) && ltb (a / 4) ((row * columns + s.left) * 96 + (s.right - s.left) * 96)) (fresh a) (lane_at words a))
-    → ((q u v : ℕ) → inside columns rows q u v ≡ true → fresh (tile_address columns q u v) ≡ new q u v)
-    → tiles_seen columns rows after ≡ painted (covers (one_row s row)) new (tiles_seen columns rows words)
-row_painted columns rows row s words after fresh new at l room step is =
-    paints_where columns rows (tile_address columns) (lane_at words) (lane_at after) fresh (covers (one_row s row)) new
-    (λ q u v w.
-    let k : tile_address columns q u v / 4 < columns * rows * 96 = omega (arith, address_below columns rows q u v w) in
-    step (tile_address columns q u v) k
-    ∙ ap (λ b. cond b (fresh (tile_address columns q u v)) (lane_at words (tile_address columns q u v))) (row_words columns rows row q u v s w at.rightwards at.across))
-    (λ q u v i e. is q u v i)
+pub rows_all : (s : Segment) (row : ℕ) (new : ℕ → ℕ → ℕ → ℕ) (f g : Picture) → row ≡ s.bottom → g ≡ painted (covers (rows_to s row)) new f → g ≡ painted (covers s) new f
+rows_all s row new f g end was = was ∙ ap (λ r. painted (covers (rows_to s r)) new f) end

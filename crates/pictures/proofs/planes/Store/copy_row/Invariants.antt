@@ -1,12 +1,10 @@
-use Rattle.std.proofs.Common.{◌≡◌, ◌-◌, ◌≤◌, max}
-use Rattle.pictures.specs.Pictures.{painted, span}
+use Rattle.std.proofs.Common.{◌-◌}
+use Rattle.pictures.proofs.Painting.{RowTo}
 use Rattle.pictures.proofs.planes.Store.copy_row.Given as goal
 
 -- the places to the left are painted
 abbrev pub invariant-loop-across : goal.invariant-loop-across
-invariant-loop-across g l =
-    (g.Self.Store.picture l.self ≡ painted (span l.plane l.down l.left l.across) (g.Self.Store.picture l.other).sample (g.Self.Store.picture l.initial.self))
-    × (l.left ≤ l.across) × (l.across ≤ max l.left l.right)
+invariant-loop-across g l = RowTo (g.Self.Store.picture l.other).sample (g.Self.Store.picture l.initial.self) (g.Self.Store.picture l.self) l.plane l.down l.left l.right l.across
 
 abbrev pub decreases-loop-across : goal.decreases-loop-across
 decreases-loop-across g l = l.right - l.across
