@@ -1,10 +1,10 @@
 -- No two places of a byte store have one byte_address, and each byte_address lies in memory.
-use Rattle.std.proofs.Common.{◌≡◌, ℕ, zero, suc, ◌+◌, ◌-◌, ◌*◌, ◌/◌, ◌%◌, ◌<◌, ◌≤◌, Bool, true, false, ◌⊎◌, inl, inr, cond, ◌&&◌, eqb, ltb, leb, List, min, length, replicate, get_or, set, sym, refl, ap, ◌∙◌, ⊎_elim, mod-eq_of_lt, arith}
+use Rattle.std.proofs.Common.{◌≡◌, ℕ, zero, suc, ◌+◌, ◌-◌, ◌*◌, ◌/◌, ◌%◌, ◌<◌, ◌≤◌, Bool, true, false, cond, ◌&&◌, eqb, ltb, leb, List, min, length, get_or, set, sym, refl, ap, ◌∙◌, ⊎_elim, mod-eq_of_lt, arith}
 use native.Mathlib.Nat.{mul-mul-mul_comm}
 use Rattle.std.proofs.lemmas.List.{get_or-set_same, get_or-set_other}
 use Rattle.std.proofs.Math.Nat.{add-mul}
 use Rattle.std.proofs.lemmas.Nat.{mul-add-lt}
-use Rattle.std.proofs.lemmas.Bool.{cases_eq, cases_lt, cond-true, eq-eqb, lt-ltb, ne_eqb}
+use Rattle.std.proofs.lemmas.Bool.{cases_eq, cond-true, eq-eqb, lt-ltb, ne_eqb}
 use Rattle.std.proofs.lemmas.Bool.Decides.{nat_tests}
 use Rattle.pictures.specs.Pictures.{covers, inside, painted, side, span, start}
 use Rattle.pictures.proofs.Addresses.{Within, within, is_within, Apart, of_span, same_digits, paints_run, paints_where}
@@ -143,13 +143,13 @@ module _ (columns rows p x y at stride : ℕ) (kept : RowsAt columns rows p x y 
   row_at row = rw (kept.from, kept.apart) (sym (below columns rows p x y row))
 
   -- the bytes are the samples of its places
-  pub square_seen : (bytes values : List ℕ) → ((k : ℕ) → k < 64 → get_or values k 0 ≡ get_or bytes (at + k / 8 * stride + k % 8) 0) → ((k : ℕ) → get_or values k 0 < 256)
+  pub square_seen : (bytes values : List ℕ) → ((k : ℕ) → k < 64 → get_or values k 0 ≡ get_or bytes (at + k / 8 * stride + k % 8) 0) → ((k : ℕ) → k < 64 → get_or values k 0 < 256)
       → (k : ℕ) → k < 64 → get_or values k 0 ≡ (bytes_seen columns rows bytes).sample p (x + k % 8) (y + k / 8)
   square_seen bytes values each small k h =
       let w = in_square (k / 8) (k % 8) (omega arith) (omega arith) in
       let a : byte_address columns rows p (x + k % 8) (y + k / 8) ≡ at + k / 8 * stride + k % 8 =
       beside columns rows p x (y + k / 8) (k % 8) ∙ ap (λ n. n + k % 8) (sym (row_at (k / 8))) in
-      sym (mod-eq_of_lt (small k)) ∙ ap (λ n. n % 256) (each k h) ∙ ap (byte_at bytes) (sym a)
+      sym (mod-eq_of_lt (small k h)) ∙ ap (λ n. n % 256) (each k h) ∙ ap (byte_at bytes) (sym a)
       ∙ sym (cond-true _ _ _ (is_within columns rows p (x + k % 8) (y + k / 8) w))
 
   -- and one row of them is set
@@ -174,32 +174,3 @@ module _ (columns rows p x y at stride : ℕ) (kept : RowsAt columns rows p x y 
       mod_cond : (b : Bool) (m n : ℕ) → cond b m n % 256 ≡ cond b (m % 256) (n % 256)
       mod_cond true m n = refl
       mod_cond false m n = refl
-
--- the rows of a square that are copied out so far
-pub record CopiedOut (bytes : List ℕ) (at stride row : ℕ) (values : List ℕ) : Type 0 where
-  pub each : (k : ℕ) → k < 8 * row → get_or values k 0 ≡ get_or bytes (at + k / 8 * stride + k % 8) 0
-  pub small : (k : ℕ) → get_or values k 0 < 256
-
-pub copied_more : (bytes : List ℕ) (at stride row : ℕ) (values after : List ℕ) → CopiedOut bytes at stride row values → ((k : ℕ) → get_or bytes k 0 < 256)
-    → ((k : ℕ) → get_or after k 0 ≡ cond (leb (8 * row) k && ltb k (8 * row + 8)) (get_or bytes (at + row * stride + (k - 8 * row)) 0) (get_or values k 0))
-    → CopiedOut bytes at stride (row + 1) after
-copied_more bytes at stride row values after was fits step = record { each = λ k h. by k h (cases_lt k (8 * row)); small = λ k. rw (step k) (either _ _ _ (fits _) (was.small k)) }
-  where
-    by : (k : ℕ) → k < 8 * (row + 1) → (k < 8 * row) ⊎ (8 * row ≤ k) → get_or after k 0 ≡ get_or bytes (at + k / 8 * stride + k % 8) 0
-    by k h (inl l) =
-        let e : (leb (8 * row) k && ltb k (8 * row + 8)) ≡ false = grind (arith, nat_tests) in
-        step k ∙ simp e (was.each k l)
-    by k h (inr l) =
-        let e : (leb (8 * row) k && ltb k (8 * row + 8)) ≡ true = grind (arith, nat_tests) in
-        let d : k / 8 ≡ row = omega arith in
-        let m : k % 8 ≡ k - 8 * row = omega arith in
-        step k ∙ simp (e, d, m)
-
-    either : (b : Bool) (m n : ℕ) → m < 256 → n < 256 → cond b m n < 256
-    either true m n h k = h
-    either false m n h k = k
-
-pub zeros_small : (n k : ℕ) → get_or (replicate n 0) k 0 < 256
-zeros_small zero k = omega arith
-zeros_small (suc n) zero = omega arith
-zeros_small (suc n) (suc k) = zeros_small n k

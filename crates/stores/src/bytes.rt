@@ -88,7 +88,7 @@ fn copy_in(bytes: &mut [u8], at: usize, values: &[u8; 64], row: usize)
 fn square_from(bytes: &[u8], at: usize, stride: usize) -> [u8; 64]
     requires { at + 7 * stride + 8 ≤ length bytes.now }
     ensures each { (k : ℕ) → k < 64 → slice_index result k ≡ slice_index bytes.now (at + k / 8 * stride + k % 8) }
-    ensures small { (k : ℕ) → slice_index result k < 256 }
+    ensures small { (k : ℕ) → k < 64 → slice_index result k < 256 }
 {
     let mut values = [0; 64];
     for row in 0..8 {
@@ -195,6 +195,7 @@ impl Store for ByteStore {
         self.write(plane, across, down, value);
         across + 1
     }
+
     // The whole picture at once where the other store has the same size.
     fn copy_together(&mut self, other: &Self, segment: Segment) -> bool {
         if self.size != other.size || !is_whole(self.size, segment) {

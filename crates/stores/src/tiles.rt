@@ -289,6 +289,7 @@ impl Store for TileStore {
         self.write(plane, across, down, value);
         across + 1
     }
+
     // A row of macroblocks at a time, since these lie together.
     fn fill_together(&mut self, segment: Segment, value: u8) -> bool {
         if !lies_in(self.size, segment) {
