@@ -11,7 +11,7 @@ use Rattle.records.proofs.Wholes.{reads_whole}
 use Rattle.samples.specs.declared.prediction.Rounding.{Rounding}
 use Rattle.samples.specs.Ages.{next_age, older}
 use Rattle.pictures.specs.declared.formats.Format.{Format}
-use Rattle.pictures.specs.Segments.{has_bit, segment_at, segment_of}
+use Rattle.pictures.specs.Segments.{has_bit, segment_at, segment_of_row}
 use Rattle.rebuild.specs.Rebuilt.{count_of}
 use Rattle.records.proofs.Wholes.{all_there}
 use Rattle.calls.specs.declared.faults.PictureFault.{PictureFault}
@@ -27,7 +27,7 @@ use Rattle.calls.proofs.Verdicts.{Taken, delivery_passed, judged_same}
 -- a row of the finished picture lies in a segment whose number is in P
 abbrev pub In : (ℕ → Type 0) → Option ℕ → ℕ → Type 0
 In P None row = ⊥
-In P (Some layout) row = P (segment_of layout row)
+In P (Some layout) row = P (segment_of_row layout row)
 
 pub record FinishedAlike (P : ℕ → Type 0) (format : Format) (f : Option ℕ) (M N : Contents) : Type 0 where
   pub samples : (p x y : ℕ) → in_picture format p x y ≡ true → In P f (macroblock_row p y) → M.held.finished.sample p x y ≡ N.held.finished.sample p x y
@@ -35,10 +35,10 @@ pub record FinishedAlike (P : ℕ → Type 0) (format : Format) (f : Option ℕ)
 
 pub record WorkingAlike (P : ℕ → Type 0) (format : Format) (layout : ℕ) (M N : Contents) : Type 0 where
   pub accepted : (j : ℕ) → P j → has_bit M.accepted j ≡ has_bit N.accepted j
-  pub samples : (p x y : ℕ) → in_picture format p x y ≡ true → P (segment_of layout (macroblock_row p y))
-      → has_bit M.accepted (segment_of layout (macroblock_row p y)) ≡ true → M.held.working.sample p x y ≡ N.held.working.sample p x y
-  pub ages : (c r : ℕ) → in_grid format c r ≡ true → P (segment_of layout r)
-      → has_bit M.accepted (segment_of layout r) ≡ true → age_at format M.held.working_ages c r ≡ age_at format N.held.working_ages c r
+  pub samples : (p x y : ℕ) → in_picture format p x y ≡ true → P (segment_of_row layout (macroblock_row p y))
+      → has_bit M.accepted (segment_of_row layout (macroblock_row p y)) ≡ true → M.held.working.sample p x y ≡ N.held.working.sample p x y
+  pub ages : (c r : ℕ) → in_grid format c r ≡ true → P (segment_of_row layout r)
+      → has_bit M.accepted (segment_of_row layout r) ≡ true → age_at format M.held.working_ages c r ≡ age_at format N.held.working_ages c r
 
 -- an open picture is INTRA, or has the finished picture's layout
 abbrev pub Based : PictureKind → Option ℕ → ℕ → Type 0
@@ -82,14 +82,14 @@ module _ (P : ℕ → Type 0) (w : Setting) where
 
   -- what stands in for samples and ages that were not delivered
   same_fill : (kind : PictureKind) (f : Option ℕ) (layout : ℕ) (M N : Contents) → Source P format kind f layout M N
-      → (p x y : ℕ) → in_picture format p x y ≡ true → P (segment_of layout (macroblock_row p y))
+      → (p x y : ℕ) → in_picture format p x y ≡ true → P (segment_of_row layout (macroblock_row p y))
       → fill_sample kind M.held.finished p x y ≡ fill_sample kind N.held.finished p x y
   same_fill picture.Intra f layout M N so p x y i s = refl
   same_fill picture.Inter f layout M N (inl z) p x y i s = absurd (let z : ◌≡◌ {A = ℕ} 0 1 = cc in omega arith)
   same_fill picture.Inter f layout M N (inr h) p x y i s = h.1.samples p x y i (subst (λ g. In P g (macroblock_row p y)) (sym h.0) s)
 
   same_fill_age : (kind : PictureKind) (f : Option ℕ) (layout : ℕ) (M N : Contents) → Source P format kind f layout M N
-      → (c r : ℕ) → in_grid format c r ≡ true → P (segment_of layout r)
+      → (c r : ℕ) → in_grid format c r ≡ true → P (segment_of_row layout r)
       → fill_age kind (age_at format M.held.finished_ages c r) ≡ fill_age kind (age_at format N.held.finished_ages c r)
   same_fill_age picture.Intra f layout M N so c r i s = refl
   same_fill_age picture.Inter f layout M N (inl z) c r i s = absurd (let z : ◌≡◌ {A = ℕ} 0 1 = cc in omega arith)
@@ -103,7 +103,7 @@ module _ (P : ℕ → Type 0) (w : Setting) where
       own (inr h) =
           inr (λ p x y i e. h.1.samples p x y i (subst (λ g. In P g (macroblock_row p y)) (sym h.0) (subst P (sym (eqb-true _ _ e)) q)))
 
-      same_next : Source P format kind f layout M N → (c r : ℕ) → in_grid format c r ≡ true → eqb (segment_of layout r) segment ≡ true
+      same_next : Source P format kind f layout M N → (c r : ℕ) → in_grid format c r ≡ true → eqb (segment_of_row layout r) segment ≡ true
           → next_age (coded_intra format layout segment ms c r) (age_at format M.held.finished_ages c r)
           ≡ next_age (coded_intra format layout segment ms c r) (age_at format N.held.finished_ages c r)
       same_next (inl z) c r i e = rw (coded_intra_lem format layout segment ms (all_intra _ format kind layout segment bytes ms t z) c r i e) refl
@@ -116,11 +116,11 @@ module _ (P : ℕ → Type 0) (w : Setting) where
       both_taken so al =
           record {
             accepted = λ j s. set_bit M.accepted segment j ∙ (ap (cond (eqb j segment) true) (al.accepted j s) ∙ sym (set_bit N.accepted segment j));
-            samples = λ p x y i s e. sample p x y i s e (eqb (segment_of layout (macroblock_row p y)) segment) refl;
+            samples = λ p x y i s e. sample p x y i s e (eqb (segment_of_row layout (macroblock_row p y)) segment) refl;
             ages = λ c r i s e.
                 made_age format w.meaning layout segment rounding ms there M.held z c r i
-                ∙ picked (eqb (segment_of layout r) segment) (has_bit M.accepted (segment_of layout r)) _ _ _ _
-                (same_next so c r i) (al.ages c r i s) (sym (set_bit M.accepted segment (segment_of layout r)) ∙ e)
+                ∙ picked (eqb (segment_of_row layout r) segment) (has_bit M.accepted (segment_of_row layout r)) _ _ _ _
+                (same_next so c r i) (al.ages c r i s) (sym (set_bit M.accepted segment (segment_of_row layout r)) ∙ e)
                 ∙ sym (made_age format w.meaning layout segment rounding ms there N.held z' c r i);
           }
         where
@@ -133,9 +133,9 @@ module _ (P : ℕ → Type 0) (w : Setting) where
           z' : Sized format N.held
           z' = sized w N b t.fits
 
-          sample : (p x y : ℕ) → in_picture format p x y ≡ true → P (segment_of layout (macroblock_row p y))
-              → has_bit (bit_or M.accepted (2 ^ segment)) (segment_of layout (macroblock_row p y)) ≡ true
-              → (u : Bool) → eqb (segment_of layout (macroblock_row p y)) segment ≡ u
+          sample : (p x y : ℕ) → in_picture format p x y ≡ true → P (segment_of_row layout (macroblock_row p y))
+              → has_bit (bit_or M.accepted (2 ^ segment)) (segment_of_row layout (macroblock_row p y)) ≡ true
+              → (u : Bool) → eqb (segment_of_row layout (macroblock_row p y)) segment ≡ u
               → (taken w rounding layout segment ms M).held.working.sample p x y ≡ (taken w rounding layout segment ms N).held.working.sample p x y
           sample p x y i s e true u =
               own_sample format w.meaning layout segment rounding ms there M.held N.held z z' t.segments (own so) p x y i u

@@ -8,7 +8,7 @@ use Rattle.records.specs.declared.types.PictureKind.TheVariants as picture
 use Rattle.samples.specs.declared.prediction.Rounding.{Rounding}
 use Rattle.samples.specs.Ages.{next_age, older}
 use Rattle.pictures.specs.declared.formats.Format.{Format}
-use Rattle.pictures.specs.Segments.{has_bit, segment_count, segment_of}
+use Rattle.pictures.specs.Segments.{has_bit, segment_count, segment_of_row}
 use Rattle.rebuild.proofs.Cells.{accepted_is}
 use Rattle.calls.specs.declared.answers.Answer.TheVariants.{Opened, Closed, Age}
 use Rattle.calls.specs.declared.faults.PictureFault.{PictureFault}
@@ -83,10 +83,10 @@ record BookOpen (format : Format) (f : Option ℕ) (M : Contents) (b : Book) (ki
   kind_is : b.coding.kind ≡ kind
   layout_is : b.layout ≡ layout
   based : Based kind f layout
-  in_accepted : (c r : ℕ) → in_grid format c r ≡ true → has_bit M.accepted (segment_of layout r) ≡ true
+  in_accepted : (c r : ℕ) → in_grid format c r ≡ true → has_bit M.accepted (segment_of_row layout r) ≡ true
       → age_at format M.held.working_ages c r ≡ next_age (b.coding.intra c r) (age_at format M.held.finished_ages c r)
-  in_rest : (c r : ℕ) → in_grid format c r ≡ true → has_bit M.accepted (segment_of layout r) ≡ false → b.coding.intra c r ≡ false
-  in_intra : kind ≡ picture.Intra → (c r : ℕ) → in_grid format c r ≡ true → has_bit M.accepted (segment_of layout r) ≡ true → b.coding.intra c r ≡ true
+  in_rest : (c r : ℕ) → in_grid format c r ≡ true → has_bit M.accepted (segment_of_row layout r) ≡ false → b.coding.intra c r ≡ false
+  in_intra : kind ≡ picture.Intra → (c r : ℕ) → in_grid format c r ≡ true → has_bit M.accepted (segment_of_row layout r) ≡ true → b.coding.intra c r ≡ true
 
 abbrev OpenAges : Format → Option ℕ → Stage → Contents → Book → Type 0
 OpenAges format f resting M b = Unit {0}
@@ -165,19 +165,19 @@ module _ (w : Setting) where
       based = o.based;
       in_accepted = λ c r i t.
           made_age format w.meaning l segment rd ms (all_read _ format k l segment bytes ms was) M.held (sized w M a was.fits) c r i
-          ∙ set_accepted (own r) (coded c r) (b.coding.intra c r) (has_bit M.accepted (segment_of l r)) _ _ (o.in_accepted c r i) (was_set r ∙ t)
+          ∙ set_accepted (own r) (coded c r) (b.coding.intra c r) (has_bit M.accepted (segment_of_row l r)) _ _ (o.in_accepted c r i) (was_set r ∙ t)
           ∙ ap (λ u. next_age u (age_at format M.held.finished_ages c r)) (sym (same c r));
       in_rest = λ c r i t.
-          same c r ∙ set_rest (own r) (coded c r) (b.coding.intra c r) (has_bit M.accepted (segment_of l r)) (o.in_rest c r i) (was_set r ∙ t);
+          same c r ∙ set_rest (own r) (coded c r) (b.coding.intra c r) (has_bit M.accepted (segment_of_row l r)) (o.in_rest c r i) (was_set r ∙ t);
       in_intra = λ z c r i t.
           same c r
-          ∙ set_intra (own r) (coded c r) (b.coding.intra c r) (has_bit M.accepted (segment_of l r))
+          ∙ set_intra (own r) (coded c r) (b.coding.intra c r) (has_bit M.accepted (segment_of_row l r))
           (coded_intra_lem format l segment ms (all_intra _ format k l segment bytes ms was z) c r i) (o.in_intra z c r i) (was_set r ∙ t);
     },
   )
     where
       own : ℕ → Bool
-      own r = eqb (segment_of l r) segment
+      own r = eqb (segment_of_row l r) segment
 
       coded : ℕ → ℕ → Bool
       coded c r = coded_intra format l segment ms c r
@@ -185,11 +185,11 @@ module _ (w : Setting) where
       was : Taken (all_fit w) format k l segment bytes ms
       was = delivery_passed (all_fit w) format k l M.accepted segment bytes ms e
 
-      was_set : (r : ℕ) → cond (own r) true (has_bit M.accepted (segment_of l r)) ≡ has_bit (bit_or M.accepted (2 ^ segment)) (segment_of l r)
-      was_set r = sym (set_bit M.accepted segment (segment_of l r))
+      was_set : (r : ℕ) → cond (own r) true (has_bit M.accepted (segment_of_row l r)) ≡ has_bit (bit_or M.accepted (2 ^ segment)) (segment_of_row l r)
+      was_set r = sym (set_bit M.accepted segment (segment_of_row l r))
 
       same : (c r : ℕ)
-          → cond (eqb (segment_of b.layout r) segment)
+          → cond (eqb (segment_of_row b.layout r) segment)
           (coded_intra format b.layout segment (delivered_records format b.coding.kind b.layout segment bytes) c r) (b.coding.intra c r)
           ≡ cond (own r) (coded c r) (b.coding.intra c r)
       same c r = rw (o.kind_is, o.layout_is, accepted_is k _ bytes ms was.was_read) refl
@@ -207,7 +207,7 @@ module _ (w : Setting) where
   counted_closing n f k rd l M b a h o (Ok u) e = (
     λ c r i.
         closed_age format k l M.accepted M.held (sized w M a (closing_passed (all_fit w) u e)) c r i
-        ∙ close_age (has_bit M.accepted (segment_of l r)) k (b.coding.intra c r) _ _ (since c r b.closed_ones)
+        ∙ close_age (has_bit M.accepted (segment_of_row l r)) k (b.coding.intra c r) _ _ (since c r b.closed_ones)
         (o.in_accepted c r i) (o.in_rest c r i) (λ z t. o.in_intra z c r i t) (based_ages f k l M b o.based h c r i)
         ∙ ap (λ x. age_after (cond (b.coding.intra c r) (ago 0) (cond (is_intra_picture x) not_coded (one_more (since c r b.closed_ones)))))
         (sym o.kind_is),

@@ -5,7 +5,7 @@ use Rattle.records.specs.declared.types.Macroblock.{Macroblock}
 use Rattle.records.specs.declared.types.PictureKind.{PictureKind}
 use Rattle.samples.specs.declared.prediction.Rounding.{Rounding}
 use Rattle.pictures.specs.declared.formats.Format.{Format}
-use Rattle.pictures.specs.Segments.{segment_at, segment_of}
+use Rattle.pictures.specs.Segments.{segment_at, segment_of_row}
 use Rattle.rebuild.specs.Rebuilt.{count_of}
 use Rattle.calls.specs.declared.answers.Answer.{Answer}
 use Rattle.calls.specs.declared.answers.Answer.TheVariants.{Closed, Sample, Age}
@@ -43,8 +43,8 @@ module _ (P : ℕ → Type 0) (format : Format) where
   working_back l M N h =
       record {
         accepted = λ j s. sym (h.accepted j s);
-        samples = λ p x y i s t. sym (h.samples p x y i s (h.accepted (segment_of l (macroblock_row p y)) s ∙ t));
-        ages = λ c r i s t. sym (h.ages c r i s (h.accepted (segment_of l r) s ∙ t));
+        samples = λ p x y i s t. sym (h.samples p x y i s (h.accepted (segment_of_row l (macroblock_row p y)) s ∙ t));
+        ages = λ c r i s t. sym (h.ages c r i s (h.accepted (segment_of_row l r) s ∙ t));
       }
 
 alike_back : (k : ℕ) (format : Format) (C : Control) (M N : Contents) → Alike k format C M N → Alike k format C N M
@@ -148,7 +148,7 @@ module _ (w : Setting) (k : ℕ) where
   -- questions
   own_or_else : (f : Option ℕ) (row : ℕ) → is_finished f ≡ true → Own k f row ⊎ In (But k) f row
   own_or_else None row e = absurd (false≢true e)
-  own_or_else (Some l) row e = cases_eq (segment_of l row) k
+  own_or_else (Some l) row e = cases_eq (segment_of_row l row) k
 
   alike_sample : (f : Option ℕ) (M N : Contents) → FinishedAlike (But k) format f M N → (p x y : ℕ)
       → (v : Result (Unit {0}) PictureFault) → judge_sample w.store_fits format f p x y ≡ v

@@ -6,7 +6,7 @@ use Rattle.std.proofs.lemmas.Bool.Decides.{nat_tests}
 use Rattle.pictures.specs.declared.formats.Format.{Format}
 use Rattle.pictures.specs.Formats.{columns_of, rows_of}
 use Rattle.pictures.specs.Pictures.{covers, inside, side}
-use Rattle.pictures.specs.Segments.{first_row, segment_at, segment_of}
+use Rattle.pictures.specs.Segments.{first_row, segment_at, segment_of_row}
 use Rattle.pictures.proofs.Rows.{segmented}
 use Rattle.deblocking.proofs.Edges.{by_side}
 use Rattle.rebuild.specs.Rebuilt.{count_of, first_cell, set_from}
@@ -36,7 +36,7 @@ row_below format p x y i =
     ltb-true _ _ (sym (below_row p y (rows_of format)) ∙ b.1)
 
 -- a segment's places are those whose row is the segment's
-pub covers_is : (format : Format) (l k p x y : ℕ) → in_picture format p x y ≡ true → covers (segment_at format l k) p x y ≡ eqb (segment_of l (macroblock_row p y)) k
+pub covers_is : (format : Format) (l k p x y : ℕ) → in_picture format p x y ≡ true → covers (segment_at format l k) p x y ≡ eqb (segment_of_row l (macroblock_row p y)) k
 unfolding covers inside
 covers_is format l k p x y i =
     let a = and_parts (ltb p 3) _ i in
@@ -110,7 +110,7 @@ module _ {X : Type 0} (top bottom columns c r : ℕ) (cells table : List X) (d :
 pub set_cell : {X : Type 0} (format : Format) (l k c r : ℕ) (cells table : List X) (d : X) → in_grid format c r ≡ true
     → length cells ≡ count_of (segment_at format l k) → length table ≡ cells_of format
     → get_or (set_from (first_cell (segment_at format l k)) cells table) (r * columns_of format + c) d
-    ≡ cond (eqb (segment_of l r) k) (get_or cells ((r - first_row format l k) * columns_of format + c) d) (get_or table (r * columns_of format + c) d)
+    ≡ cond (eqb (segment_of_row l r) k) (get_or cells ((r - first_row format l k) * columns_of format + c) d) (get_or table (r * columns_of format + c) d)
 set_cell format l k c r cells table d i all e =
     let w : columns_of format - 0 ≡ columns_of format = omega arith in
     let g = grid_says format c r i in

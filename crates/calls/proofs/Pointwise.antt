@@ -16,7 +16,7 @@ use Rattle.pictures.specs.declared.formats.Format.{Format}
 use Rattle.pictures.specs.declared.layouts.Segment.{Segment}
 use Rattle.pictures.specs.Formats.{columns_of, rows_of}
 use Rattle.pictures.specs.Pictures.{Picture, covers, has}
-use Rattle.pictures.specs.Segments.{first_row, has_bit, segment_at, segment_count, segment_of}
+use Rattle.pictures.specs.Segments.{first_row, has_bit, segment_at, segment_count, segment_of_row}
 use Rattle.pictures.proofs.Rows.{segmented}
 use Rattle.deblocking.specs.Edges.{SameMarks}
 use Rattle.deblocking.proofs.Edges.{unpainted}
@@ -37,19 +37,19 @@ sized_has : (format : Format) (f : Picture) (p x y : ℕ) → f.wide ≡ columns
 sized_has format f p x y w h i = rw (w, h) i
 
 -- the rows of a segment
-own_rows : (format : Format) (l k r : ℕ) → r < rows_of format → eqb (segment_of l r) k ≡ true → (first_row format l k ≤ r) × (r < first_row format l (suc k))
+own_rows : (format : Format) (l k r : ℕ) → r < rows_of format → eqb (segment_of_row l r) k ≡ true → (first_row format l k ≤ r) × (r < first_row format l (suc k))
 own_rows format l k r h e =
     let t = and_parts _ _ (sym ((segmented format l).between k r h) ∙ e) in
     (leb-true _ _ t.0, ltb-true _ _ t.1)
 
-rows_own : (format : Format) (l k r : ℕ) → first_row format l k ≤ r → r < first_row format l (suc k) → (r < rows_of format) × (eqb (segment_of l r) k ≡ true)
+rows_own : (format : Format) (l k r : ℕ) → first_row format l k ≤ r → r < first_row format l (suc k) → (r < rows_of format) × (eqb (segment_of_row l r) k ≡ true)
 rows_own format l k r a b =
     let s = segmented format l in
     let h : r < rows_of format = omega (arith, s.in_picture k) in
     (h, s.between k r h ∙ and_from _ _ (le-leb _ _ a) (lt-ltb _ _ b))
 
 -- where a macroblock of a segment stands among its records
-record_below : (format : Format) (l k c r : ℕ) → in_grid format c r ≡ true → eqb (segment_of l r) k ≡ true
+record_below : (format : Format) (l k c r : ℕ) → in_grid format c r ≡ true → eqb (segment_of_row l r) k ≡ true
     → (r - first_row format l k) * columns_of format + c < count_of (segment_at format l k)
 record_below format l k c r i e =
     let g = grid_says format c r i in
@@ -59,7 +59,7 @@ record_below format l k c r i e =
 
 -- records that are all INTRA code all its macroblocks INTRA
 pub coded_intra_lem : (format : Format) (l k : ℕ) (records : List Macroblock) → ((j : ℕ) → j < count_of (segment_at format l k) → intra_at records j ≡ true)
-    → (c r : ℕ) → in_grid format c r ≡ true → eqb (segment_of l r) k ≡ true → coded_intra format l k records c r ≡ true
+    → (c r : ℕ) → in_grid format c r ≡ true → eqb (segment_of_row l r) k ≡ true → coded_intra format l k records c r ≡ true
 unfolding coded_intra
 coded_intra_lem format l k records intra c r i e = intra _ (record_below format l k c r i e)
 
@@ -67,7 +67,7 @@ coded_intra_lem format l k records intra c r i e = intra _ (record_below format 
 abbrev pub SameSources : Format → ℕ → ℕ → List Macroblock → Held → Held → Type 0
 SameSources format l k records h i =
     ((j : ℕ) → j < count_of (segment_at format l k) → intra_at records j ≡ true)
-    ⊎ ((p x y : ℕ) → in_picture format p x y ≡ true → eqb (segment_of l (macroblock_row p y)) k ≡ true → h.finished.sample p x y ≡ i.finished.sample p x y)
+    ⊎ ((p x y : ℕ) → in_picture format p x y ≡ true → eqb (segment_of_row l (macroblock_row p y)) k ≡ true → h.finished.sample p x y ≡ i.finished.sample p x y)
 
 module _ (format : Format) (meaning : List ℤ → ℕ → ℕ → ℤ) (l k : ℕ) (rounding : Rounding) (records : List Macroblock) (all : length records ≡ count_of (segment_at format l k)) where
   abbrev s : Segment
@@ -77,7 +77,7 @@ module _ (format : Format) (meaning : List ℤ → ℕ → ℕ → ℤ) (l k : �
   made h = segment_rebuilt meaning s rounding records h
 
   -- the ages that the delivery sets
-  own_age : (h : Held) (c r : ℕ) → in_grid format c r ≡ true → (t : Bool) → eqb (segment_of l r) k ≡ t
+  own_age : (h : Held) (c r : ℕ) → in_grid format c r ≡ true → (t : Bool) → eqb (segment_of_row l r) k ≡ t
       → cond t (get_or (ages_of records (drop (first_cell s) h.finished_ages)) ((r - first_row format l k) * columns_of format + c) 0) (age_at format h.working_ages c r)
       ≡ cond t (next_age (coded_intra format l k records c r) (age_at format h.finished_ages c r)) (age_at format h.working_ages c r)
   unfolding age_at coded_intra
@@ -94,14 +94,14 @@ module _ (format : Format) (meaning : List ℤ → ℕ → ℕ → ℤ) (l k : �
 
   pub made_age : (h : Held) → Sized format h → (c r : ℕ) → in_grid format c r ≡ true
       → age_at format (made h).working_ages c r
-      ≡ cond (eqb (segment_of l r) k) (next_age (coded_intra format l k records c r) (age_at format h.finished_ages c r)) (age_at format h.working_ages c r)
+      ≡ cond (eqb (segment_of_row l r) k) (next_age (coded_intra format l k records c r) (age_at format h.finished_ages c r)) (age_at format h.working_ages c r)
   unfolding age_at segment_rebuilt
   made_age h z c r i =
       set_cell format l k c r (ages_of records (drop (first_cell s) h.finished_ages)) h.working_ages 0 i (ages_length records _ ∙ all) z.working_ages
-      ∙ own_age h c r i (eqb (segment_of l r) k) refl
+      ∙ own_age h c r i (eqb (segment_of_row l r) k) refl
 
   -- it changes no sample of another segment
-  pub kept_sample : (h : Held) (p x y : ℕ) → in_picture format p x y ≡ true → eqb (segment_of l (macroblock_row p y)) k ≡ false
+  pub kept_sample : (h : Held) (p x y : ℕ) → in_picture format p x y ≡ true → eqb (segment_of_row l (macroblock_row p y)) k ≡ false
       → (made h).working.sample p x y ≡ h.working.sample p x y
   unfolding segment_rebuilt
   kept_sample h p x y i e =
@@ -141,7 +141,7 @@ module _ (format : Format) (meaning : List ℤ → ℕ → ℕ → ℤ) (l k : �
         ∙ same_new agree p x y e c
         ∙ sym (cond-true _ _ _ (and_from _ _ (sized_has format i.working p x y z'.working_wide z'.working_high n) c))
 
-    pub own_sample : (p x y : ℕ) → in_picture format p x y ≡ true → eqb (segment_of l (macroblock_row p y)) k ≡ true
+    pub own_sample : (p x y : ℕ) → in_picture format p x y ≡ true → eqb (segment_of_row l (macroblock_row p y)) k ≡ true
         → (made h).working.sample p x y ≡ (made i).working.sample p x y
     unfolding segment_rebuilt
     own_sample p x y n e =
@@ -160,16 +160,16 @@ not_cond false x y = refl
 module _ (format : Format) (kind : PictureKind) (l accepted : ℕ) (h : Held) (z : Sized format h) where
   pub closed_sample : (p x y : ℕ) → in_picture format p x y ≡ true
       → (picture_closed format kind l accepted h).finished.sample p x y
-      ≡ cond (has_bit accepted (segment_of l (macroblock_row p y))) (h.working.sample p x y) (fill_sample kind h.finished p x y)
+      ≡ cond (has_bit accepted (segment_of_row l (macroblock_row p y))) (h.working.sample p x y) (fill_sample kind h.finished p x y)
   unfolding picture_closed filled_picture missing
   closed_sample p x y i =
-      ap (λ b. cond (b && not (has_bit accepted (segment_of l (macroblock_row p y)))) (fill_sample kind h.finished p x y) (h.working.sample p x y))
+      ap (λ b. cond (b && not (has_bit accepted (segment_of_row l (macroblock_row p y)))) (fill_sample kind h.finished p x y) (h.working.sample p x y))
       (sized_has format h.working p x y z.working_wide z.working_high i)
-      ∙ not_cond (has_bit accepted (segment_of l (macroblock_row p y))) _ _
+      ∙ not_cond (has_bit accepted (segment_of_row l (macroblock_row p y))) _ _
 
   pub closed_age : (c r : ℕ) → in_grid format c r ≡ true
       → age_at format (picture_closed format kind l accepted h).finished_ages c r
-      ≡ cond (has_bit accepted (segment_of l r)) (age_at format h.working_ages c r) (fill_age kind (age_at format h.finished_ages c r))
+      ≡ cond (has_bit accepted (segment_of_row l r)) (age_at format h.working_ages c r) (fill_age kind (age_at format h.finished_ages c r))
   unfolding picture_closed age_at missing
   closed_age c r i =
       let n = cell_in format c r i in
@@ -177,5 +177,5 @@ module _ (format : Format) (kind : PictureKind) (l accepted : ℕ) (h : Held) (z
       let e : (0 + (r * columns_of format + c)) / columns_of format ≡ r = ap (λ j. j / columns_of format) m ∙ div-mul-add r (columns_of format) c (grid_says format c r i).0 in
       filled_at (λ j. missing l accepted (j / columns_of format)) kind 0 h.finished_ages h.working_ages (r * columns_of format + c)
       (omega (arith, z.finished_ages)) (omega (arith, z.working_ages))
-      ∙ ap (λ j. cond (not (has_bit accepted (segment_of l j))) (fill_age kind (get_or h.finished_ages (r * columns_of format + c) 0)) (get_or h.working_ages (r * columns_of format + c) 0)) e
-      ∙ not_cond (has_bit accepted (segment_of l r)) _ _
+      ∙ ap (λ j. cond (not (has_bit accepted (segment_of_row l j))) (fill_age kind (get_or h.finished_ages (r * columns_of format + c) 0)) (get_or h.working_ages (r * columns_of format + c) 0)) e
+      ∙ not_cond (has_bit accepted (segment_of_row l r)) _ _

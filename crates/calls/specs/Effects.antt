@@ -12,7 +12,7 @@ use Rattle.pictures.specs.declared.formats.Format.{Format}
 use Rattle.pictures.specs.declared.layouts.Segment.{Segment}
 use Rattle.pictures.specs.Formats.{columns_of}
 use Rattle.pictures.specs.Pictures.{Picture, painted, side}
-use Rattle.pictures.specs.Segments.{has_bit, segment_of}
+use Rattle.pictures.specs.Segments.{has_bit, segment_of_row}
 use Rattle.rebuild.specs.Rebuilt.{first_cell, rebuilt, set_from, width_of}
 use Rattle.calls.specs.Held.{Held}
 
@@ -30,7 +30,7 @@ segment_rebuilt meaning s rounding records h =
 
 -- a macroblock row lies in a segment that was not accepted
 unfoldable pub missing : ℕ → ℕ → ℕ → Bool
-missing layout accepted row = not (has_bit accepted (segment_of layout row))
+missing layout accepted row = not (has_bit accepted (segment_of_row layout row))
 
 -- what stands in for samples and ages that were not delivered: an INTRA picture has grey of no age, an INTER picture is as if skipped
 abbrev pub fill_sample : PictureKind → Picture → ℕ → ℕ → ℕ → ℕ

@@ -8,7 +8,7 @@ use Rattle.records.specs.Deliveries.{intra_at}
 use Rattle.pictures.specs.declared.formats.Format.{Format}
 use Rattle.pictures.specs.Formats.{columns_of, rows_of}
 use Rattle.pictures.specs.Pictures.{inside, side}
-use Rattle.pictures.specs.Segments.{first_row, has_bit, segment_of}
+use Rattle.pictures.specs.Segments.{first_row, has_bit, segment_of_row}
 use Rattle.rebuild.specs.Rebuilt.{accepted as records_of}
 use Rattle.calls.specs.declared.answers.Answer.{Answer}
 use Rattle.calls.specs.declared.answers.Answer.TheVariants.{Opened, Delivered, Closed, Sample, Age, Refused, OutOfTurn}
@@ -45,11 +45,11 @@ pub data Rewritten (k : ℕ) : List Calling → List Calling → Type 0 where
 -- a macroblock row of the finished picture lies in segment k; in another one
 abbrev pub Own : ℕ → Option ℕ → ℕ → Type 0
 Own k None row = ⊥
-Own k (Some layout) row = segment_of layout row ≡ k
+Own k (Some layout) row = segment_of_row layout row ≡ k
 
 abbrev pub Elsewhere : ℕ → Option ℕ → ℕ → Type 0
 Elsewhere k None row = ⊥
-Elsewhere k (Some layout) row = segment_of layout row ≢ k
+Elsewhere k (Some layout) row = segment_of_row layout row ≢ k
 
 -- Two answers to one call are the same to every number but k, where the finished picture's layout is f: they are equal, or the call is a delivery of
 -- number k, or a closing whose marks agree but for bit k, or a question on a place of segment k.
@@ -154,7 +154,7 @@ noted format b (delivering segment bytes) =
       coding = record {
         kind = b.coding.kind;
         intra = λ c r.
-            cond (segment_of b.layout r == segment)
+            cond (segment_of_row b.layout r == segment)
             (coded_intra format b.layout segment (delivered_records format b.coding.kind b.layout segment bytes) c r)
             (b.coding.intra c r);
       };

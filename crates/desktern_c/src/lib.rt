@@ -6,7 +6,7 @@ ghost use Rattle.std.specs.Prelude.{◌≡◌, None, Option, length};
 ghost use Rattle.std.specs.Borrow.{sem};
 ghost use denote.RawPtr.{null_ptr};
 ghost use Rattle.calls.specs.declared.answers.Call.TheVariants.{Age as asking_age, Sample as asking_sample, Close as closing, Deliver as delivering, Open as opening};
-ghost use Rattle.pictures.specs.Formats.{numbered};
+ghost use Rattle.pictures.specs.Formats.{format_of_number};
 ghost use Rattle.handles.specs.Handles.{Answered, ages_at, finished_at, slot_owns};
 ghost use Rattle.seats.specs.Copies.{laid_over, plane_samples, plane_size};
 ghost use Rattle.handles.specs.Begun.{Begun, choices_of};
@@ -33,7 +33,7 @@ pub extern "C" fn desktern_new(
     answer: &mut AnswerNumbers,
 )
     requires { reel.old.held ≡ None }
-    ensures begun { Begun (numbered format) (choices_of store transform) reel.new.held answer.new }
+    ensures begun { Begun (format_of_number format) (choices_of store transform) reel.new.held answer.new }
     ensures left { reel.new.held ≡ None → reel.new ≡ reel.old }
 {
     match begin(heap, format, store, transform) {

@@ -1,6 +1,6 @@
 // New reels for C.
 ghost use Rattle.std.specs.Prelude.{◌≡◌, IfSome};
-ghost use Rattle.pictures.specs.Formats.{numbered};
+ghost use Rattle.pictures.specs.Formats.{format_of_number};
 ghost use Rattle.replay.specs.declared.Stage.TheVariants.{Resting};
 ghost use Rattle.seats.specs.Seats.{blank, held_by, store_in};
 ghost use Rattle.replay.specs.Stages.{format_of};
@@ -86,7 +86,7 @@ pub fn begin(
     store: u32,
     transform: u32,
 ) -> Result<Loose<ReelHandle, Global>, AnswerNumbers>
-    ensures { Begun (numbered format) (choices_of store transform) (handle_in result) (answer_in result) }
+    ensures { Begun (format_of_number format) (choices_of store transform) (handle_in result) (answer_in result) }
 {
     let reel = match Reel::new(format) {
         Ok(reel) => reel,

@@ -6,12 +6,12 @@ use Rattle.pictures.specs.declared.formats.Format.TheVariants.{SubQcif, Qcif, Ci
 use Rattle.pictures.specs.declared.formats.UnknownFormat.{UnknownFormat}
 
 -- the numbers 1, 2 and 3 name a format, and no other does
-abbrev pub numbered : ℕ → Option Format
-numbered n = cond (n == 1) (Some SubQcif) (cond (n == 2) (Some Qcif) (cond (n == 3) (Some Cif) None))
+abbrev pub format_of_number : ℕ → Option Format
+format_of_number n = cond (n == 1) (Some SubQcif) (cond (n == 2) (Some Qcif) (cond (n == 3) (Some Cif) None))
 
 -- the format of a number, or the number as one that names none
 abbrev pub named : ℕ → Result Format UnknownFormat
-named n = ok_or (numbered n) (record { 0 = n })
+named n = ok_or (format_of_number n) (record { 0 = n })
 
 -- what is printed of a number that names no format
 abbrev pub unknown_text : UnknownFormat → List ℕ

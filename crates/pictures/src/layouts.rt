@@ -1,7 +1,7 @@
 ghost use Rattle.std.specs.List.{count_by, range_with_len};
 ghost use Rattle.std.specs.Prelude.{◌≡◌, ℕ, nat_lt, ◌+◌, suc, ◌^◌, ◌<◌, ◌≤◌, true, false, Decides};
 ghost use Rattle.pictures.specs.Formats.{rows_of};
-ghost use Rattle.pictures.specs.Segments.{Segmented, has_bit, rows_before, segment_at, segment_count, segment_of, sound};
+ghost use Rattle.pictures.specs.Segments.{Segmented, has_bit, rows_before, segment_at, segment_count, segment_of_row, sound};
 
 use crate::formats::Format;
 
@@ -36,8 +36,8 @@ fn begun(layout: u32, row: u16) -> usize
 }
 
 // The number of the segment that a row belongs to.
-fn segment_of(layout: u32, row: u16) -> u32
-    ensures value { result ≡ segment_of layout row }
+fn segment_of_row(layout: u32, row: u16) -> u32
+    ensures value { result ≡ segment_of_row layout row }
     ensures few { result ≤ row }
 {
     begun(layout, row) as u32
@@ -45,11 +45,11 @@ fn segment_of(layout: u32, row: u16) -> u32
 
 // Of so many rows, how many belong to a segment with a lower number.
 fn rows_below(layout: u32, number: u64, rows: u16) -> usize
-    ensures counted { result ≡ count_by (λ row. nat_lt (segment_of layout row) number) (range_with_len 0 rows) }
+    ensures counted { result ≡ count_by (λ row. nat_lt (segment_of_row layout row) number) (range_with_len 0 rows) }
     ensures few { result ≤ rows }
 {
     (0..rows)
-        .filter(|row| u64::from(segment_of(layout, *row)) < number)
+        .filter(|row| u64::from(segment_of_row(layout, *row)) < number)
         .count()
 }
 
@@ -83,15 +83,15 @@ impl Format {
         ensures laws { Segmented self layout }
         ensures few { result ≤ 18 }
     {
-        segment_of(layout, self.rows() - 1) + 1
+        segment_of_row(layout, self.rows() - 1) + 1
     }
 
     // The number of the segment that a macroblock row of the picture belongs to.
     pub fn segment_of_row(self, layout: u32, row: u16) -> u32
-        ensures value { result ≡ segment_of layout row }
+        ensures value { result ≡ segment_of_row layout row }
         ensures inside { row < rows_of self → result < segment_count self layout }
     {
-        segment_of(layout, row)
+        segment_of_row(layout, row)
     }
 
     // A segment by its number; one that the picture does not have is empty.

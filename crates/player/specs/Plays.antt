@@ -4,7 +4,7 @@ use Rattle.records.specs.declared.faults.SegmentFault.{SegmentFault}
 use Rattle.records.specs.declared.types.Macroblock.{Macroblock}
 use Rattle.records.specs.Deliveries.{delivered_of, read}
 use Rattle.pictures.specs.declared.formats.Format.{Format}
-use Rattle.pictures.specs.Formats.{numbered}
+use Rattle.pictures.specs.Formats.{format_of_number}
 use Rattle.script.specs.declared.line.Mistake.{Mistake}
 use Rattle.script.specs.Fields.{lines_of}
 use Rattle.script.specs.Lines as script_lines
@@ -93,7 +93,7 @@ tell_records r t = tell_delivery r.bytes (read r.kind r.macroblocks r.bytes) t
 abbrev pub played_by : Meaning → Played → Played
 played_by (store kind) p = record { store = kind; transform = p.transform; reel = p.reel; told = p.told }
 played_by (transform kind) p = record { store = p.store; transform = kind; reel = p.reel; told = p.told }
-played_by (new format) p = begun (numbered format) p
+played_by (new format) p = begun (format_of_number format) p
 played_by (opened kind rounding layout) p = make_call (opening kind rounding layout) p
 played_by (deliver segment bytes) p = make_call (delivering segment bytes) p
 played_by close p = make_call closing p

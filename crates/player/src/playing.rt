@@ -1,7 +1,7 @@
 // Plays the lines of a script one after the other.
 ghost use Rattle.std.specs.Prelude.{◌≡◌, ◌<◌, ◌^◌, length, map, IfOk, None, string_bytes};
 ghost use Rattle.records.specs.Again.{records_of};
-ghost use Rattle.pictures.specs.Formats.{numbered};
+ghost use Rattle.pictures.specs.Formats.{format_of_number};
 ghost use Rattle.script.specs.Fields.{lines_of};
 ghost use Rattle.script.specs.Lines.{meant as records_meant};
 ghost use Rattle.calls.specs.Runs.{call_of};
@@ -69,7 +69,7 @@ fn begin(
     choices: Choices,
     transcript: &mut Transcript,
 ) -> Option<Seat>
-    ensures { Plays (begun (numbered format)) seat choices transcript.old result choices transcript.new }
+    ensures { Plays (begun (format_of_number format)) seat choices transcript.old result choices transcript.new }
 {
     match Reel::new(format) {
         Ok(reel) => {

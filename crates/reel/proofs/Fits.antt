@@ -3,7 +3,7 @@ use Rattle.std.proofs.Common.{◌≡◌, ℕ, zero, suc, ◌-◌, ◌*◌, ◌<�
 use Rattle.pictures.specs.declared.formats.Format.{Format}
 use Rattle.pictures.specs.declared.formats.Format.TheVariants.{SubQcif, Qcif, Cif}
 use Rattle.pictures.specs.Formats.{columns_of, rows_of}
-use Rattle.pictures.specs.Segments.{has_bit, segment_count, segment_of}
+use Rattle.pictures.specs.Segments.{has_bit, segment_count, segment_of_row}
 use Rattle.calls.specs.Held.{cells_of}
 
 -- the cells down to a row of the picture are the table's
@@ -18,10 +18,10 @@ one_more : (b : Bool) (n row : ℕ) → n ≤ row → cond b (suc n) n ≤ suc r
 one_more true n row h = omega arith
 one_more false n row h = omega arith
 
-number_below : (layout row : ℕ) → segment_of layout row ≤ row
-unfolding segment_of
+number_below : (layout row : ℕ) → segment_of_row layout row ≤ row
+unfolding segment_of_row
 number_below layout zero = omega arith
-number_below layout (suc row) = one_more (has_bit layout (suc row)) (segment_of layout row) row (number_below layout row)
+number_below layout (suc row) = one_more (has_bit layout (suc row)) (segment_of_row layout row) row (number_below layout row)
 
 few_rows : (format : Format) → rows_of format ≤ 18
 few_rows SubQcif = omega arith

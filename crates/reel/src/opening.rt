@@ -1,6 +1,6 @@
 // New reels, and opening a picture.
 ghost use Rattle.std.specs.Prelude.{◌≡◌, true, IfOk, MatchResult};
-ghost use Rattle.pictures.specs.Formats.{numbered};
+ghost use Rattle.pictures.specs.Formats.{format_of_number};
 ghost use Rattle.calls.specs.Held.{fits};
 ghost use Rattle.calls.specs.Questions.{judge_opening};
 ghost use Rattle.reel.specs.Calls.{opened_kind, judge_layout, kind_read, new_reel, opened};
@@ -30,7 +30,7 @@ fn read_kind(kind: u32, rounding: u32) -> Result<(PictureKind, Rounding), Pictur
 impl Reel {
     // A new reel of the format of a number. (The caller's number: that of no format is refused.)
     pub fn new(format: u32) -> Result<Reel, PictureFault>
-        ensures { result ≡ new_reel (numbered format) }
+        ensures { result ≡ new_reel (format_of_number format) }
     {
         let Ok(number) = u8::try_from(format) else {
             return Err(PictureFault::Format);

@@ -8,7 +8,7 @@ use Rattle.pictures.specs.Formats.{columns_of, rows_of}
 use Rattle.pictures.specs.declared.layouts.Segment.{Segment}
 use Rattle.pictures.specs.Pictures.{covers, side}
 use Rattle.pictures.proofs.Addresses.{Within}
-use Rattle.stores.specs.Room.{Whole, size_in}
+use Rattle.stores.specs.Room.{WholePicture, size_in}
 
 -- columns × rows macroblocks, for each of which there are so many cells
 pub room_enough : (format : Option Format) (per cells columns rows : ℕ) → (columns, rows) ≡ size_in format (cells / per) → columns * rows * per ≤ cells
@@ -41,7 +41,7 @@ pub small : (columns rows at : ℕ) → columns ≤ 22 → rows ≤ 18 → at < 
 small columns rows at w h l = omega (arith, l, mul-le-mul w h)
 
 -- the whole picture has all its places
-pub whole_covers : (columns rows : ℕ) (s : Segment) (q u v : ℕ) → Whole columns rows s → Within columns rows q u v → covers s q u v ≡ true
+pub whole_covers : (columns rows : ℕ) (s : Segment) (q u v : ℕ) → WholePicture columns rows s → Within columns rows q u v → covers s q u v ≡ true
 unfolding covers
 whole_covers columns rows s q u v whole w =
     rw (whole.left, whole.right, whole.top, whole.bottom)

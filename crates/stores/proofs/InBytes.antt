@@ -10,7 +10,7 @@ use Rattle.pictures.specs.Pictures.{covers, inside, painted, side, span, start}
 use Rattle.pictures.proofs.Addresses.{Within, within, is_within, Apart, of_span, same_digits, paints_run, paints_where}
 use Rattle.pictures.specs.declared.layouts.Segment.{Segment}
 use Rattle.tables.specs.Cells.{in_part}
-use Rattle.stores.specs.Room.{Whole}
+use Rattle.stores.specs.Room.{FrontCopied, WholePicture}
 use Rattle.stores.proofs.Fitting.{whole_covers}
 use Rattle.stores.specs.Bytes.{RowsAt, RunAt, byte_address, byte_at, bytes_seen}
 
@@ -107,9 +107,8 @@ run_filled columns rows p x y right at count value bytes after run small room ce
     run_painted columns rows p x y right at count (length bytes) bytes after (λ _. value) (λ _ _ _. value) run room (λ k. cells k 0) (λ q u v i. mod-eq_of_lt small)
 
 -- all bytes of a picture are taken from a store of the same size
-pub bytes_copied : (columns rows columns' rows' : ℕ) (s : Segment) (bytes others after : List ℕ) → columns ≡ columns' → rows ≡ rows' → Whole columns rows s
-    → ((k d : ℕ) → get_or after k d ≡ cond (ltb k (columns * rows * 384)) (get_or others k d) (get_or bytes k d))
-    → bytes_seen columns rows after ≡ painted (covers s) (bytes_seen columns' rows' others).sample (bytes_seen columns rows bytes)
+pub bytes_copied : (columns rows columns' rows' : ℕ) (s : Segment) (bytes others after : List ℕ) → columns ≡ columns' → rows ≡ rows' → WholePicture columns rows s
+    → FrontCopied (columns * rows * 384) others bytes after → bytes_seen columns rows after ≡ painted (covers s) (bytes_seen columns' rows' others).sample (bytes_seen columns rows bytes)
 bytes_copied columns rows columns' rows' s bytes others after c r whole cells =
     paints_where columns rows (byte_address columns rows) (byte_at bytes) (byte_at after) (byte_at others) (covers s) (bytes_seen columns' rows' others).sample
     (λ q u v w.

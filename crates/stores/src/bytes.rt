@@ -1,7 +1,7 @@
 ghost use Rattle.std.specs.Prelude.{◌≡◌, ℕ, ◌+◌, ◌-◌, ◌*◌, ◌/◌, ◌%◌, ◌<◌, ◌≤◌, ◌&&◌, IfSome, true, if◌then◌else◌, length, nat_le, nat_lt, slice_index};
 ghost use Rattle.pictures.specs.Pictures.{inside, painted_square};
 ghost use Rattle.stores.specs.Bytes.{RowsAt, RunAt, byte_address, bytes_seen};
-ghost use Rattle.stores.specs.Room.{Placed, PlacedAt, Whole};
+ghost use Rattle.stores.specs.Room.{Placed, PlacedAt, WholePicture};
 ghost use Rattle.std.proofs.Common.{rules};
 
 use crate::cells::CellStore;
@@ -35,7 +35,7 @@ fn place(size: Size, plane: u8, across: usize, down: usize) -> Option<usize>
 
 // Whether a segment is the whole picture of a size.
 fn is_whole(size: Size, segment: Segment) -> bool
-    ensures { result ≡ true → Whole size.columns size.rows segment }
+    ensures { result ≡ true → WholePicture size.columns size.rows segment }
 {
     segment.left == 0
         && segment.right == size.columns

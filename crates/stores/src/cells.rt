@@ -1,7 +1,7 @@
-ghost use Rattle.std.specs.Prelude.{◌≡◌, ℕ, ◌*◌, ◌/◌, ◌≤◌, IfOk, List, if◌then◌else◌, length, nat_lt, replicate, slice_index_or, vec_len};
-ghost use Rattle.pictures.specs.Formats.{columns_of, numbered, rows_of};
+ghost use Rattle.std.specs.Prelude.{◌≡◌, ℕ, ◌*◌, ◌/◌, ◌≤◌, IfOk, List, length, replicate, vec_len};
+ghost use Rattle.pictures.specs.Formats.{columns_of, format_of_number, rows_of};
 ghost use Rattle.pictures.specs.Pictures.{Picture};
-ghost use Rattle.stores.specs.Room.{holds, made, size_in};
+ghost use Rattle.stores.specs.Room.{FrontCopied, has_room, made, size_in};
 
 use crate::room::format_in;
 use pictures::{Format, Size};
@@ -26,14 +26,14 @@ impl<C: Copy, const PER_MACROBLOCK: u16> CellStore<C, PER_MACROBLOCK> {
 
     // Whether so many cells make a store of the format of this number. (A number here and in `new`, since it may name no format; `filled` takes a format.)
     pub fn suffices(format: u8, cells: usize) -> bool
-        ensures { result ≡ holds (numbered format) (cells / PER_MACROBLOCK) }
+        ensures { result ≡ has_room (format_of_number format) (cells / PER_MACROBLOCK) }
     {
         format_in(format, Self::room(cells)).is_some()
     }
 
     // The store over a memory; of size 0 by 0 where the memory does not suffice or the format is unknown: this cannot fail, and `suffices` tells it beforehand.
     pub fn new(format: u8, memory: Vec<C>) -> Self
-        ensures size { (result.size.columns, result.size.rows) ≡ size_in (numbered format) (length memory.items / PER_MACROBLOCK) }
+        ensures size { (result.size.columns, result.size.rows) ≡ size_in (format_of_number format) (length memory.items / PER_MACROBLOCK) }
         ensures memory { result.memory ≡ memory }
         ensures made { (seen : ℕ → ℕ → List C → Picture) → seen result.size.columns result.size.rows result.memory.items ≡ made seen PER_MACROBLOCK format memory.items }
     {
@@ -62,7 +62,7 @@ impl<C: Copy, const PER_MACROBLOCK: u16> CellStore<C, PER_MACROBLOCK> {
         requires columns { self.old.size.columns ≡ other.now.size.columns }
         requires rows { self.old.size.rows ≡ other.now.size.rows }
         ensures size { self.new.size ≡ self.old.size }
-        ensures cells { (k : ℕ) (d : C) → slice_index_or self.new.memory.items k d ≡ (if nat_lt k (self.old.size.columns * self.old.size.rows * PER_MACROBLOCK) then slice_index_or other.now.memory.items k d else slice_index_or self.old.memory.items k d) }
+        ensures cells { FrontCopied (self.old.size.columns * self.old.size.rows * PER_MACROBLOCK) other.now.memory.items self.old.memory.items self.new.memory.items }
     {
         let macroblocks = self.size.columns as usize * self.size.rows as usize;
         let cells = macroblocks * PER_MACROBLOCK as usize;

@@ -104,7 +104,7 @@ fn set_square(
 }
 
 // The word that holds the sample of a place inside, with its neighbours.
-fn four_at(words: &[u32], size: Size, plane: u8, across: usize, down: usize) -> u32
+fn read_word(words: &[u32], size: Size, plane: u8, across: usize, down: usize) -> u32
     requires isin { inside size.columns size.rows plane across down ≡ true }
     requires room { size.columns * size.rows * 96 ≤ length words.now }
     ensures { Row (tiles_seen size.columns size.rows words.now) plane (across / 4 * 4) down 4 (four result) }
@@ -135,9 +135,9 @@ fn eight_from(words: &[u32], size: Size, plane: u8, across: usize, down: usize) 
     requires room { size.columns * size.rows * 96 ≤ length words.now }
     ensures { Row (tiles_seen size.columns size.rows words.now) plane across down 8 result }
 {
-    let first = four_at(words, size, plane, across, down);
-    let second = four_at(words, size, plane, across + 4, down);
-    let third = four_at(words, size, plane, across + 7, down);
+    let first = read_word(words, size, plane, across, down);
+    let second = read_word(words, size, plane, across + 4, down);
+    let third = read_word(words, size, plane, across + 7, down);
     let skip = across % 4;
     eight_of(shifted(first, second, skip), shifted(second, third, skip))
 }

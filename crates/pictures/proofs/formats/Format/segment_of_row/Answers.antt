@@ -4,6 +4,6 @@ use Rattle.pictures.proofs.formats.Format.segment_of_row.Goals as goal
 pub returns : goal.returns
 returns c =
     record {
-      value = c.segment_of.ensures.value;
-      inside = λ h. rw c.segment_of.ensures.value ((segmented c.args.self c.args.layout).counted c.args.row h);
+      value = c.segment_of_row.ensures.value;
+      inside = λ h. rw c.segment_of_row.ensures.value ((segmented c.args.self c.args.layout).below_count c.args.row h);
     }
