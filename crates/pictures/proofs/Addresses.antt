@@ -6,6 +6,14 @@ use Rattle.std.proofs.lemmas.Nat.{div-mul-add, mod-mul-add}
 use Rattle.pictures.specs.Pictures.{Picture, side, inside, has, here, span, painted, written, seen}
 use Rattle.pictures.proofs.Painting.{alike, same_picture, same_place}
 
+-- what holds with 16 samples to a macroblock and with 8 holds in each plane
+pub by_side : (P : ℕ → Type 0) (p : ℕ) → P 16 → P 8 → P (side p)
+by_side P p a b = at (eqb p 0)
+  where
+    at : (t : Bool) → P (cond t 16 8)
+    at true = a
+    at false = b
+
 -- what a place inside says of its numbers
 pub record Within (columns rows p x y : ℕ) : Type 0 where
   pub plane : p < 3

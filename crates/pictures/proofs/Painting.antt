@@ -133,12 +133,12 @@ unfolding inside
 planes_all f b n q u v h e = grind (arith, nat_tests)
 
 -- the rectangle of the whole picture has all its places
-pub whole_covered : (f : Picture) (columns rows q u v : ℕ) → columns ≡ f.wide → rows ≡ f.high → has f q u v ≡ true
-    → covers (record { left = 0; right = columns; top = 0; bottom = rows }) q u v ≡ true
+pub whole_covered : (s : Segment) (columns rows q u v : ℕ) → s.left ≡ 0 → s.right ≡ columns → s.top ≡ 0 → s.bottom ≡ rows → inside columns rows q u v ≡ true
+    → covers s q u v ≡ true
 unfolding covers inside
-whole_covered f columns rows q u v a b e =
+whole_covered s columns rows q u v a b c d e =
     let l : 0 * side q ≡ 0 = zero-mul (side q) in
-    rw (a, b) (simp l (grind (arith, nat_tests)))
+    rw (a, b, c, d) (simp l (grind (arith, nat_tests)))
 
 -- a picture that is painted whole from one of its size is that picture
 pub repainted : (f g : Picture) → g.wide ≡ f.wide → g.high ≡ f.high

@@ -1,14 +1,11 @@
 -- A store has room for its size, and few places.
-use Rattle.std.proofs.Common.{◌≡◌, ℕ, ◌*◌, ◌/◌, ◌<◌, ◌≤◌, true, false, not, ◌&&◌, eqb, Some, None, Option, ⊎_elim, ap, mul-le-mul, zero-mul, leb, arith}
+use Rattle.std.proofs.Common.{◌≡◌, ℕ, ◌*◌, ◌/◌, ◌<◌, ◌≤◌, true, ◌&&◌, eqb, Some, None, Option, ⊎_elim, ap, mul-le-mul, arith}
 use Rattle.std.proofs.Math.Nat.{div-mul-le_self, mul-le-mul_right}
-use Rattle.std.proofs.lemmas.Bool.{cases_lt, le-leb, lt-leb, lt-ltb}
+use Rattle.std.proofs.lemmas.Bool.{cases_lt, le-leb, lt-leb}
 use Rattle.std.proofs.lemmas.Bool.Decides.{nat_tests}
 use Rattle.pictures.specs.declared.formats.Format.{Format}
 use Rattle.pictures.specs.Formats.{columns_of, rows_of}
-use Rattle.pictures.specs.declared.layouts.Segment.{Segment}
-use Rattle.pictures.specs.Pictures.{covers, side}
-use Rattle.pictures.proofs.Addresses.{Within}
-use Rattle.stores.specs.Room.{WholePicture, size_in}
+use Rattle.stores.specs.Room.{size_in}
 
 -- columns × rows macroblocks, for each of which there are so many cells
 pub room_enough : (format : Option Format) (per cells columns rows : ℕ) → (columns, rows) ≡ size_in format (cells / per) → columns * rows * per ≤ cells
@@ -33,19 +30,6 @@ room_enough (Some format) per cells columns rows e =
 pub same_size : (columns columns' rows rows' : ℕ) → (eqb columns columns' && eqb rows rows') ≡ true → (columns ≡ columns') × (rows ≡ rows')
 same_size columns columns' rows rows' e = (grind (arith, nat_tests), grind (arith, nat_tests))
 
-pub same_unless : (columns columns' rows rows' : ℕ) → false ≡ not (eqb columns columns' && eqb rows rows') → (columns ≡ columns') × (rows ≡ rows')
-same_unless columns columns' rows rows' e = (grind (arith, nat_tests), grind (arith, nat_tests))
-
 -- so what is kept lies below a number that fits
 pub small : (columns rows at : ℕ) → columns ≤ 22 → rows ≤ 18 → at < columns * rows * 384 → at < 396 * 384
 small columns rows at w h l = omega (arith, l, mul-le-mul w h)
-
--- the whole picture has all its places
-pub whole_covers : (columns rows : ℕ) (s : Segment) (q u v : ℕ) → WholePicture columns rows s → Within columns rows q u v → covers s q u v ≡ true
-unfolding covers
-whole_covers columns rows s q u v whole w =
-    rw (whole.left, whole.right, whole.top, whole.bottom)
-    (let zero : 0 * side q ≡ 0 = zero-mul (side q) in
-    let a : leb 0 u ≡ true = le-leb _ _ (omega arith) in
-    let b : leb 0 v ≡ true = le-leb _ _ (omega arith) in
-    simp (zero, a, b, lt-ltb _ _ w.across, lt-ltb _ _ w.down))

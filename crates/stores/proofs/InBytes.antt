@@ -11,7 +11,7 @@ use Rattle.pictures.proofs.Addresses.{Within, within, is_within, Apart, of_span,
 use Rattle.pictures.specs.declared.layouts.Segment.{Segment}
 use Rattle.tables.specs.Cells.{in_part}
 use Rattle.stores.specs.Room.{FrontCopied, WholePicture}
-use Rattle.stores.proofs.Fitting.{whole_covers}
+use Rattle.pictures.proofs.Painting.{whole_covered}
 use Rattle.stores.specs.Bytes.{RowsAt, RunAt, byte_address, byte_at, bytes_seen}
 
 -- a row and a column of a plane of side s are within its samples
@@ -113,7 +113,7 @@ bytes_copied columns rows columns' rows' s bytes others after c r whole cells =
     paints_where columns rows (byte_address columns rows) (byte_at bytes) (byte_at after) (byte_at others) (covers s) (bytes_seen columns' rows' others).sample
     (λ q u v w.
     ap (λ n. n % 256) (cells (byte_address columns rows q u v) 0 ∙ cond-true _ _ _ (lt-ltb _ _ (address_below columns rows q u v w)))
-    ∙ sym (cond-true _ _ _ (whole_covers columns rows s q u v whole w)))
+    ∙ sym (cond-true _ _ _ (whole_covered s columns rows q u v whole.left whole.right whole.top whole.bottom (is_within columns rows q u v w))))
     (λ q u v i e. rw (← c, ← r) (sym (cond-true _ _ _ i)))
 
 -- a row lies so far after the one that is so many above it

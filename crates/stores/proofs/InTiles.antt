@@ -2,23 +2,23 @@
 use Rattle.std.proofs.Common.{◌≡◌, ℕ, zero, suc, ◌+◌, ◌-◌, ◌*◌, ◌/◌, ◌%◌, ◌<◌, ◌≤◌, Bool, true, false, cond, ◌&&◌, ◌||◌, eqb, ltb, leb, List, [], ◌∷◌, ◌++◌, ◌^◌, length, get_or, set, sym, refl, ap, ◌∙◌, ⊎_elim, arith}
 use Rattle.std.proofs.lemmas.List.{get_or-set_same, get_or-set_other}
 use Rattle.std.proofs.Math.Nat.{mul-le-mul_right}
-use Rattle.std.proofs.lemmas.Nat.{mul-add-lt}
+use Rattle.std.proofs.lemmas.Nat.{div_below, mul-add-lt}
 use Rattle.std.proofs.lemmas.Bool.{cases_eq, cond_both, cond-true, cond-false, cases_lt, eq-eqb, eqb-true, le-leb, le-ltb, lt-leb, ne_eqb}
 use Rattle.std.proofs.lemmas.Bool.Decides.{nat_tests}
 use Rattle.pictures.specs.declared.layouts.Segment.{Segment}
 use Rattle.pictures.specs.Pictures.{Picture, covers, inside, painted, side, span, start}
 use Rattle.pictures.proofs.Painting.{both, none}
-use Rattle.pictures.proofs.Addresses.{Within, within, is_within, Apart, Run, of_span, same_digits, paints_run, paints_where}
+use Rattle.pictures.proofs.Addresses.{Within, by_side, within, is_within, Apart, Run, of_span, same_digits, paints_run, paints_where}
 use Rattle.tables.specs.Cells.{in_part}
 use Rattle.stores.specs.Room.{LiesIn}
 use Rattle.stores.specs.Tiles.{Row, SquareAt, WordAt, WordOf, column_word, four, joined, lane_at, row_word, tile_address, tiles_seen}
 
+some : (p : ℕ) → 0 < side p
+some p = by_side (λ s. 0 < s) p (omega arith) (omega arith)
+
 -- the number of a place's macroblock, and of its sample there
 pub tile_below : (columns rows p x y : ℕ) → Within columns rows p x y → y / side p * columns + x / side p < columns * rows
-tile_below columns rows zero x y w = mul-add-lt (y / 16) columns (x / 16) rows (omega (arith, w.down)) (omega (arith, w.across))
-tile_below columns rows (suc zero) x y w = mul-add-lt (y / 8) columns (x / 8) rows (omega (arith, w.down)) (omega (arith, w.across))
-tile_below columns rows (suc (suc zero)) x y w = mul-add-lt (y / 8) columns (x / 8) rows (omega (arith, w.down)) (omega (arith, w.across))
-tile_below columns rows (suc (suc (suc p))) x y w = absurd (omega (arith, w.plane))
+tile_below columns rows p x y w = mul-add-lt (y / side p) columns (x / side p) rows (div_below y (side p) rows (some p) w.down) (div_below x (side p) columns (some p) w.across)
 
 pub sample_below : (p x y : ℕ) → p < 3 → start p + (y % side p * side p + x % side p) < 384
 sample_below zero x y l = omega arith
@@ -30,20 +30,20 @@ pub address_below : (columns rows p x y : ℕ) → Within columns rows p x y →
 unfolding tile_address
 address_below columns rows p x y w = omega (arith, tile_below columns rows p x y w, sample_below p x y w.plane)
 
--- two places of plane 0, and of another plane, whose samples begin at n
-in_luma : (columns x y u v : ℕ) → x < columns * 16 → u < columns * 16 → tile_address columns 0 x y ≡ tile_address columns 0 u v → (x ≡ u) × (y ≡ v)
+-- two places of a plane
+in_one_plane : (columns p x y u v : ℕ) → p < 3 → x < columns * side p → u < columns * side p → tile_address columns p x y ≡ tile_address columns p u v → (x ≡ u) × (y ≡ v)
 unfolding tile_address
-in_luma columns x y u v l m e =
-    let s = same_digits _ _ _ _ 384 (omega arith) (omega arith) e in
-    let t = same_digits (y / 16) (x / 16) (v / 16) (u / 16) columns (omega arith) (omega arith) s.0 in
-    (omega (arith, s.1, t.1), omega (arith, s.1, t.0))
+in_one_plane columns p x y u v h l m e =
+    let s = same_digits _ _ _ _ 384 (sample_below p x y h) (sample_below p u v h) e in
+    let t = same_digits (y / side p) (x / side p) (v / side p) (u / side p) columns (div_below x (side p) columns (some p) l) (div_below u (side p) columns (some p) m) s.0 in
+    let r = same_digits (y % side p) (x % side p) (v % side p) (u % side p) (side p) (rest x) (rest u) (omega (arith, s.1)) in
+    (same x u t.1 r.1, same y v t.0 r.0)
+  where
+    rest : (n : ℕ) → n % side p < side p
+    rest n = by_side (λ s. n % s < s) p (omega arith) (omega arith)
 
-in_chroma : (columns n x y u v : ℕ) → n ≤ 320 → x < columns * 8 → u < columns * 8
-    → (y / 8 * columns + x / 8) * 384 + (n + (y % 8 * 8 + x % 8)) ≡ (v / 8 * columns + u / 8) * 384 + (n + (v % 8 * 8 + u % 8)) → (x ≡ u) × (y ≡ v)
-in_chroma columns n x y u v le l m e =
-    let s = same_digits _ _ _ _ 384 (omega arith) (omega arith) e in
-    let t = same_digits (y / 8) (x / 8) (v / 8) (u / 8) columns (omega arith) (omega arith) s.0 in
-    (omega (arith, s.1, t.1), omega (arith, s.1, t.0))
+    same : (a b : ℕ) → a / side p ≡ b / side p → a % side p ≡ b % side p → a ≡ b
+    same a b = by_side (λ s. a / s ≡ b / s → a % s ≡ b % s → a ≡ b) p (λ i j. omega arith) (λ i j. omega arith)
 
 -- places of two planes differ within their macroblocks
 across_planes : (m n r s : ℕ) → r < 384 → s < 384 → m * 384 + r ≡ n * 384 + s → (r ≡ s → ⊥) → ⊥
@@ -51,15 +51,15 @@ across_planes m n r s l k e differ = differ (same_digits m r n s 384 l k e).1
 
 pub tiles_apart : (columns rows : ℕ) → Apart columns rows (tile_address columns)
 unfolding tile_address Apart
-tiles_apart columns rows zero x y zero u v w z e = let t = in_luma columns x y u v w.across z.across e in (refl, t.0, t.1)
+tiles_apart columns rows zero x y zero u v w z e = let t = in_one_plane columns 0 x y u v w.plane w.across z.across e in (refl, t.0, t.1)
 tiles_apart columns rows zero x y (suc zero) u v w z e = absurd (across_planes _ _ _ _ (omega arith) (omega arith) e (λ s. omega arith))
 tiles_apart columns rows zero x y (suc (suc zero)) u v w z e = absurd (across_planes _ _ _ _ (omega arith) (omega arith) e (λ s. omega arith))
 tiles_apart columns rows (suc zero) x y zero u v w z e = absurd (across_planes _ _ _ _ (omega arith) (omega arith) e (λ s. omega arith))
-tiles_apart columns rows (suc zero) x y (suc zero) u v w z e = let t = in_chroma columns 256 x y u v (omega arith) w.across z.across e in (refl, t.0, t.1)
+tiles_apart columns rows (suc zero) x y (suc zero) u v w z e = let t = in_one_plane columns 1 x y u v w.plane w.across z.across e in (refl, t.0, t.1)
 tiles_apart columns rows (suc zero) x y (suc (suc zero)) u v w z e = absurd (across_planes _ _ _ _ (omega arith) (omega arith) e (λ s. omega arith))
 tiles_apart columns rows (suc (suc zero)) x y zero u v w z e = absurd (across_planes _ _ _ _ (omega arith) (omega arith) e (λ s. omega arith))
 tiles_apart columns rows (suc (suc zero)) x y (suc zero) u v w z e = absurd (across_planes _ _ _ _ (omega arith) (omega arith) e (λ s. omega arith))
-tiles_apart columns rows (suc (suc zero)) x y (suc (suc zero)) u v w z e = let t = in_chroma columns 320 x y u v (omega arith) w.across z.across e in (refl, t.0, t.1)
+tiles_apart columns rows (suc (suc zero)) x y (suc (suc zero)) u v w z e = let t = in_one_plane columns 2 x y u v w.plane w.across z.across e in (refl, t.0, t.1)
 tiles_apart columns rows (suc (suc (suc p))) x y q u v w z e = absurd (omega (arith, w.plane))
 tiles_apart columns rows zero x y (suc (suc (suc q))) u v w z e = absurd (omega (arith, z.plane))
 tiles_apart columns rows (suc zero) x y (suc (suc (suc q))) u v w z e = absurd (omega (arith, z.plane))
@@ -122,16 +122,13 @@ word_beside columns (suc zero) x y d l h i = let a : (x + d) / 8 ≡ x / 8 = ome
 word_beside columns (suc (suc zero)) x y d l h i = let a : (x + d) / 8 ≡ x / 8 = omega arith in rw a (omega arith)
 word_beside columns (suc (suc (suc p))) x y d l h i = absurd (omega arith)
 
-word_across : (columns p x d : ℕ) → p < 3 → x % 4 ≡ 0 → d < 4 → x < columns * side p → x + d < columns * side p
-word_across columns zero x d l h i j = omega arith
-word_across columns (suc zero) x d l h i j = omega arith
-word_across columns (suc (suc zero)) x d l h i j = omega arith
-word_across columns (suc (suc (suc p))) x d l h i j = absurd (omega arith)
+word_across : (columns p x d : ℕ) → x % 4 ≡ 0 → d < 4 → x < columns * side p → x + d < columns * side p
+word_across columns p x d h i = by_side (λ s. x < columns * s → x + d < columns * s) p (λ j. omega arith) (λ j. omega arith)
 
 pub word_run : (columns rows p x y : ℕ) → Within columns rows p x y → x % 4 ≡ 0 → Run columns rows (tile_address columns) p x y 4
 word_run columns rows p x y w h =
     record {
-      within_row = λ d i. record { plane = w.plane; across = word_across columns p x d w.plane h i w.across; down = w.down };
+      within_row = λ d i. record { plane = w.plane; across = word_across columns p x d h i w.across; down = w.down };
       one_by_one = λ d i. word_beside columns p x y d w.plane h i;
     }
 
@@ -198,16 +195,10 @@ address_words columns (suc (suc zero)) x y l = omega arith
 address_words columns (suc (suc (suc p))) x y l = absurd (omega arith)
 
 pub row_few : (columns rows p x y : ℕ) → rows ≤ 18 → Within columns rows p x y → y < 288
-row_few columns rows zero x y h w = omega (arith, w.down)
-row_few columns rows (suc zero) x y h w = omega (arith, w.down)
-row_few columns rows (suc (suc zero)) x y h w = omega (arith, w.down)
-row_few columns rows (suc (suc (suc p))) x y h w = absurd (omega (arith, w.plane))
+row_few columns rows p x y h w = by_side (λ s. y < rows * s → y < 288) p (λ l. omega arith) (λ l. omega arith) w.down
 
 pub word_few : (columns rows p x y : ℕ) → columns ≤ 22 → Within columns rows p x y → x / 4 < 88
-word_few columns rows zero x y h w = omega (arith, w.across)
-word_few columns rows (suc zero) x y h w = omega (arith, w.across)
-word_few columns rows (suc (suc zero)) x y h w = omega (arith, w.across)
-word_few columns rows (suc (suc (suc p))) x y h w = absurd (omega (arith, w.plane))
+word_few columns rows p x y h w = by_side (λ s. x < columns * s → x / 4 < 88) p (λ l. omega arith) (λ l. omega arith) w.across
 
 -- the four samples of a word
 pub word_row : (columns rows p x y w : ℕ) (words : List ℕ) → inside columns rows p x y ≡ true → WordOf columns rows p x y w
@@ -216,7 +207,7 @@ word_row columns rows p x y w words isin at c h =
     let here = within columns rows p x y isin in
     let left : x / 4 * 4 < columns * side p = omega (arith, here.across) in
     let there : inside columns rows p (x / 4 * 4 + c) y ≡ true =
-    is_within columns rows p (x / 4 * 4 + c) y (record { plane = here.plane; across = word_across columns p (x / 4 * 4) c here.plane (omega arith) h left; down = here.down }) in
+    is_within columns rows p (x / 4 * 4 + c) y (record { plane = here.plane; across = word_across columns p (x / 4 * 4) c (omega arith) h left; down = here.down }) in
     let n : (x / 4 * 4 + c) / 4 ≡ x / 4 = omega arith in
     let a : tile_address columns p (x / 4 * 4 + c) y ≡ 4 * w + c =
     address_words columns p (x / 4 * 4 + c) y here.plane ∙ (rw n (omega (arith, at.holds, address_words columns p x y here.plane))) in
@@ -407,29 +398,20 @@ words_of : (m n t c r : ℕ) → r < 384 → m * 96 + c ≡ n * 96
     → (leb (m * 96) ((t * 384 + r) / 4) && ltb ((t * 384 + r) / 4) (m * 96 + c)) ≡ (leb m t && ltb t n)
 words_of m n t c r h e = grind (arith, nat_tests)
 
-by_sixteen : (left right row u v : ℕ) → (leb left (u / 16) && (ltb (u / 16) right && (leb row (v / 16) && ltb (v / 16) (row + 1))))
-    ≡ (leb (left * 16) u && (ltb u (right * 16) && (leb (row * 16) v && ltb v ((row + 1) * 16))))
-by_sixteen left right row u v = grind (arith, nat_tests)
-
-by_eight : (left right row u v : ℕ) → (leb left (u / 8) && (ltb (u / 8) right && (leb row (v / 8) && ltb (v / 8) (row + 1))))
-    ≡ (leb (left * 8) u && (ltb u (right * 8) && (leb (row * 8) v && ltb v ((row + 1) * 8))))
-by_eight left right row u v = grind (arith, nat_tests)
+by_macroblocks : (p left right row u v : ℕ) → (leb left (u / side p) && (ltb (u / side p) right && (leb row (v / side p) && ltb (v / side p) (row + 1))))
+    ≡ (leb (left * side p) u && (ltb u (right * side p) && (leb (row * side p) v && ltb v ((row + 1) * side p))))
+by_macroblocks p left right row u v =
+    by_side (λ s. (leb left (u / s) && (ltb (u / s) right && (leb row (v / s) && ltb (v / s) (row + 1)))) ≡ (leb (left * s) u && (ltb u (right * s) && (leb (row * s) v && ltb v ((row + 1) * s)))))
+    p (grind (arith, nat_tests)) (grind (arith, nat_tests))
 
 -- so the words of a row of macroblocks are those of its places
 row_words : (columns rows row q u v : ℕ) (s : Segment) → Within columns rows q u v → s.left ≤ s.right → s.right ≤ columns
     → (leb ((row * columns + s.left) * 96) (tile_address columns q u v / 4) && ltb (tile_address columns q u v / 4) ((row * columns + s.left) * 96 + (s.right - s.left) * 96))
     ≡ covers (one_row s row) q u v
 unfolding tile_address covers
-row_words columns rows row zero u v s w h i =
-    words_of (row * columns + s.left) (row * columns + s.right) (v / 16 * columns + u / 16) ((s.right - s.left) * 96) _ (sample_below zero u v w.plane) (omega arith)
-    ∙ number_in_row columns s.left s.right row (v / 16) (u / 16) (omega (arith, w.across)) h i ∙ by_sixteen s.left s.right row u v
-row_words columns rows row (suc zero) u v s w h i =
-    words_of (row * columns + s.left) (row * columns + s.right) (v / 8 * columns + u / 8) ((s.right - s.left) * 96) _ (sample_below (suc zero) u v w.plane) (omega arith)
-    ∙ number_in_row columns s.left s.right row (v / 8) (u / 8) (omega (arith, w.across)) h i ∙ by_eight s.left s.right row u v
-row_words columns rows row (suc (suc zero)) u v s w h i =
-    words_of (row * columns + s.left) (row * columns + s.right) (v / 8 * columns + u / 8) ((s.right - s.left) * 96) _ (sample_below (suc (suc zero)) u v w.plane) (omega arith)
-    ∙ number_in_row columns s.left s.right row (v / 8) (u / 8) (omega (arith, w.across)) h i ∙ by_eight s.left s.right row u v
-row_words columns rows row (suc (suc (suc q))) u v s w h i = absurd (omega (arith, w.plane))
+row_words columns rows row q u v s w h i =
+    words_of (row * columns + s.left) (row * columns + s.right) (v / side q * columns + u / side q) ((s.right - s.left) * 96) _ (sample_below q u v w.plane) (omega arith)
+    ∙ number_in_row columns s.left s.right row (v / side q) (u / side q) (div_below u (side q) columns (some q) w.across) h i ∙ by_macroblocks q s.left s.right row u v
 
 -- a row of macroblocks, whose words are set, has their samples; so have then the rows down to it, if those above it had
 pub rows_more : (columns rows row size : ℕ) (s : Segment) (words after : List ℕ) (word : ℕ → ℕ) (new : ℕ → ℕ → ℕ → ℕ) (f : Picture)

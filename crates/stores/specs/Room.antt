@@ -1,5 +1,5 @@
 -- The size of a store over memory that has room for so many macroblocks, and what it keeps where.
-use Rattle.std.specs.Prelude.{◌≡◌, ℕ, ◌*◌, ◌/◌, ◌<◌, ◌≤◌, Bool, true, false, cond, Some, None, Option, MatchOption, List, length, nat_le, nat_lt, slice_index_or}
+use Rattle.std.specs.Prelude.{◌≡◌, ℕ, ◌*◌, ◌/◌, ◌<◌, ◌≤◌, Bool, true, false, cond, Some, None, Option, is_some, MatchOption, List, length, nat_le, nat_lt, slice_index_or}
 use Rattle.pictures.specs.declared.formats.Format.{Format}
 use Rattle.pictures.specs.declared.layouts.Segment.{Segment}
 use Rattle.pictures.specs.Formats.{columns_of, format_of_number, rows_of}
@@ -12,13 +12,15 @@ fitting None room = None
 
 -- there is such a format, and room for all its macroblocks
 abbrev pub has_room : Option Format → ℕ → Bool
-has_room (Some format) room = nat_le (columns_of format * rows_of format) room
-has_room None room = false
+has_room format room = is_some (fitting format room)
 
 -- then the store has the format's columns and rows, and else none
+abbrev pub size_of : Option Format → ℕ × ℕ
+size_of (Some format) = (columns_of format, rows_of format)
+size_of None = (0, 0)
+
 abbrev pub size_in : Option Format → ℕ → ℕ × ℕ
-size_in (Some format) room = cond (nat_le (columns_of format * rows_of format) room) (columns_of format, rows_of format) (0, 0)
-size_in None room = (0, 0)
+size_in format room = size_of (fitting format room)
 
 -- the picture of a store that is made of cells for the format of a number, at so many cells to a macroblock, where cells are seen so
 abbrev pub made : {C : Type 0} → (ℕ → ℕ → List C → Picture) → ℕ → ℕ → List C → Picture

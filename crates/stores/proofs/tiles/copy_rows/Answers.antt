@@ -1,4 +1,4 @@
-use Rattle.std.proofs.Common.{◌≡◌, ◌*◌, ◌≤◌, min, length, get_or, sym, arith}
+use Rattle.std.proofs.Common.{◌≡◌, min, length, get_or, sym, arith}
 use Rattle.std.proofs.lemmas.Bool.{cond-true}
 use Rattle.stores.specs.Tiles.{tiles_seen}
 use Rattle.stores.proofs.InTiles.{rows_all, rows_more, rows_none}

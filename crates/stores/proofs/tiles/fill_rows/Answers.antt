@@ -1,4 +1,4 @@
-use Rattle.std.proofs.Common.{◌≡◌, ◌*◌, ◌≤◌, length, arith}
+use Rattle.std.proofs.Common.{◌≡◌, length, arith}
 use Rattle.stores.proofs.InTiles.{one_value, rows_all, rows_more, rows_none}
 use Rattle.stores.proofs.tiles.fill_rows.Goals as goal
 
