@@ -9,3 +9,4 @@ pub mod Zigzag
 pub mod Coefficients
 pub mod Laws
 pub mod SumLaws
+pub mod Kinds

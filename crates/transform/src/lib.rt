@@ -1,17 +1,18 @@
 // Inverse transforms of blocks of 8 by 8 coefficients, and what all of them have in common.
 #![tactic(auto)]
 
-ghost use Rattle.std.specs.Prelude.{◌≡◌, ℕ, ◌+◌, ◌-◌, ◌*◌, ◌/◌, ◌%◌, ◌^◌, ◌<◌, ◌≤◌, ◌==◌, true, cond, List, map, ℤ, pos, negsuc, ◌≤ℤ◌, ◌+ℤ◌, slice_index_or, unsigned_abs};
-ghost use Rattle.transform.specs.Blocks.{Everywhere, Gives, Shows};
+ghost use Rattle.std.specs.Prelude.{◌≡◌, ℕ, ◌+◌, ◌-◌, ◌*◌, ◌/◌, ◌%◌, ◌^◌, ◌<◌, ◌≤◌, ◌==◌, true, cond, List, ℤ, pos, ◌+ℤ◌, slice_index_or, unsigned_abs};
+ghost use Rattle.transform.specs.Blocks.{Gives, Shows};
 ghost use Rattle.transform.specs.Factors.{cosine};
-ghost use Rattle.transform.specs.Inverse.{direct, limited, once, ranged, twice, two_pass};
+ghost use Rattle.transform.specs.Inverse.{direct, limited, ranged, twice, two_pass};
 ghost use Rattle.transform.specs.Passes.{Row, Small, SmallRow, ZeroAt, half_sum, passed, rounded_sum, row_sum, term};
 ghost use Rattle.transform.specs.Sums.{floor};
-ghost use Rattle.transform.specs.Laws.{ranged_range, twice_zeros, twice_ends, once_zeros, once_ends};
-ghost use Rattle.std.proofs.Common.{arith};
+ghost use Rattle.transform.specs.Laws.{InRange, KeepsZeros, LimitsFirst, two_pass_range, two_pass_zeros, two_pass_ends, direct_range, direct_zeros, direct_ends};
 
+mod kinds;
 mod levels;
 
+pub use kinds::TransformKind;
 use levels::limit;
 pub use levels::{coefficients, dequantize, first_coefficient, with_sign};
 
@@ -239,13 +240,14 @@ pub trait Transform {
     fn inverse(&self, coefficients: &[i16; 64]) -> [i16; 64]
         ensures { Shows result (meaning self.now coefficients.now) };
 
-    ghost range: { (t : Self) (xs : List ℤ) → Everywhere (λ n k. (negsuc 255 ≤ℤ meaning t xs n k) × (meaning t xs n k ≤ℤ pos 255)) };
+    // results are from -256 to 255
+    ghost range: { (t : Self) → InRange (meaning t) };
 
     // zeros go to zeros
-    ghost zeros: { (t : Self) (xs : List ℤ) → Everywhere (λ n k. ((p : ℕ) → slice_index_or xs p (pos 0) ≡ pos 0) → meaning t xs n k ≡ pos 0) };
+    ghost zeros: { (t : Self) → KeepsZeros (meaning t) };
 
     // a coefficient outside its range is first brought to the nearer end
-    ghost ends: { (t : Self) (xs : List ℤ) → Everywhere (λ n k. meaning t xs n k ≡ meaning t (map limited xs) n k) };
+    ghost ends: { (t : Self) → LimitsFirst (meaning t) };
 }
 
 // Rounds after the rows, to eighths, and after the columns. (Two types with their impls, and not one with its shifts as parameters: the two formulas
@@ -256,11 +258,11 @@ pub struct TwoPass;
 impl Transform for TwoPass {
     ghost meaning = { λ _. two_pass };
 
-    ghost range = { unfold twice in λ t xs n k hn hk. ranged_range _ };
+    ghost range = { λ _. two_pass_range };
 
-    ghost zeros = { λ t xs n k hn hk. twice_zeros 128 256 65536 131072 (omega arith) (omega arith) xs n k };
+    ghost zeros = { λ _. two_pass_zeros };
 
-    ghost ends = { λ t xs n k hn hk. twice_ends 128 256 65536 131072 xs n k };
+    ghost ends = { λ _. two_pass_ends };
 
     fn inverse(&self, coefficients: &[i16; 64]) -> [i16; 64] {
         let rows = RoundedShift::new(128, 8);
@@ -276,11 +278,11 @@ pub struct Direct;
 impl Transform for Direct {
     ghost meaning = { λ _. direct };
 
-    ghost range = { unfold once in λ t xs n k hn hk. ranged_range _ };
+    ghost range = { λ _. direct_range };
 
-    ghost zeros = { λ t xs n k hn hk. once_zeros 16777216 33554432 (omega arith) xs n k };
+    ghost zeros = { λ _. direct_zeros };
 
-    ghost ends = { λ t xs n k hn hk. once_ends 16777216 33554432 xs n k };
+    ghost ends = { λ _. direct_ends };
 
     fn inverse(&self, coefficients: &[i16; 64]) -> [i16; 64] {
         let whole = RoundedShift::new(0, 0);
