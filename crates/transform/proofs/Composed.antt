@@ -5,7 +5,7 @@ use Rattle.transform.specs.Sums.{sum8, floor, brought}
 use Rattle.transform.specs.Factors.{cosine}
 use Rattle.transform.specs.Inverse.{limited, coefficient, ranged, between, twice}
 use Rattle.transform.specs.Blocks.{Gives}
-use Rattle.transform.specs.Passes.{weighed, passed, Small}
+use Rattle.transform.specs.Passes.{weighed, after_pass, Small}
 use Rattle.transform.proofs.Sizes.{floor_size}
 use Rattle.transform.proofs.Rows.{weighed_size}
 use Rattle.transform.specs.SumLaws.{sum_same}
@@ -22,15 +22,15 @@ limited_size z = omega (arith, ints, clamps)
 pub small_in : (h : ℕ) (xs ws : List ℤ) → Gives ws (in_range xs) → 2048 ≤ h → Small h ws
 small_in h xs ws e le p lt = subst (λ z. nat_abs z ≤ h) (sym (e p lt)) (let b = limited_size (get_or xs p (pos 0)) in omega arith)
 
-pub small_after : (h m : ℕ) (ws gs : List ℤ) (half d : ℕ) → Gives gs (passed ws half d) → Small h ws → 15303 * h ≤ m * d → half < d → Small m gs
-unfolding passed
+pub small_after : (h m : ℕ) (ws gs : List ℤ) (half d : ℕ) → Gives gs (after_pass ws half d) → Small h ws → 15303 * h ≤ m * d → half < d → Small m gs
+unfolding after_pass
 small_after h m ws gs half d e small le low p lt =
     let w = weighed_size h ws (p / 8) (p % 8) small (omega arith) (omega arith) in
     subst (λ z. nat_abs z ≤ m) (sym (e p lt)) (floor_size _ (weighed ws (p / 8) (p % 8)) half d m refl (omega arith) low)
 
 -- ---- a pass, at a place that is written by its row and column
-at_place : (ws : List ℤ) (half d n v : ℕ) → v < 8 → passed ws half d (8 * n + v) ≡ floor (weighed ws n v +ℤ pos half) d
-unfolding passed
+at_place : (ws : List ℤ) (half d n v : ℕ) → v < 8 → after_pass ws half d (8 * n + v) ≡ floor (weighed ws n v +ℤ pos half) d
+unfolding after_pass
 at_place ws half d n v h =
     let q : (8 * n + v) / 8 ≡ n = omega arith in
     let r : (8 * n + v) % 8 ≡ v = omega arith in
@@ -45,8 +45,8 @@ columns : (gs : List ℤ) (f : ℕ → ℕ → ℤ) (n k : ℕ) → n < 8 → ((
 unfolding weighed
 columns gs f n k h e = sum_same 8 _ _ (λ v l. ap (λ z. cosine v k *ℤ z) (e v l))
 
-module _ (xs ws gs rs out : List ℤ) (last d : ℕ) (wide : Gives ws (in_range xs)) (narrow : Gives out (λ p. ranged (get_or rs p (pos 0)))) (second : Gives rs (passed gs last d)) where
-  pub twice_is : (half e : ℕ) → Gives gs (passed ws half e) → (n k : ℕ) → n < 8 → k < 8 → get_or out (8 * k + n) (pos 0) ≡ twice half e last d xs n k
+module _ (xs ws gs rs out : List ℤ) (last d : ℕ) (wide : Gives ws (in_range xs)) (narrow : Gives out (λ p. ranged (get_or rs p (pos 0)))) (second : Gives rs (after_pass gs last d)) where
+  pub twice_is : (half e : ℕ) → Gives gs (after_pass ws half e) → (n k : ℕ) → n < 8 → k < 8 → get_or out (8 * k + n) (pos 0) ≡ twice half e last d xs n k
   unfolding twice between
   twice_is half e first n k hn hk =
       narrow (8 * k + n) (omega arith)

@@ -2,7 +2,7 @@
 use Rattle.std.proofs.Common.{◌≡◌, ℕ, ◌+◌, ◌/◌, ◌%◌, ◌<◌, ◌≤◌, eqb, ltb, List, [], ◌∷◌, length, get_or, set, ℤ, pos, sym, refl, ap, ◌∙◌, subst, arith, eqb→eq, ltb→lt, get_or-set_same, get_or-set_other, ⊎_elim}
 use Rattle.std.proofs.lemmas.Bool.{cases_eq, cases_lt}
 use Rattle.transform.specs.Blocks.{Gives}
-use Rattle.transform.specs.Coefficients.{AllZero, Placed, from_level}
+use Rattle.transform.specs.Coefficients.{AllZero, SetBefore, from_level}
 use Rattle.transform.specs.Inverse.{limited}
 use Rattle.transform.specs.Levels.{dequantized, rebuilt_size}
 use Rattle.transform.specs.Signs.{with_sign}
@@ -52,27 +52,27 @@ zero_level : (q : ℕ) (levels : List ℤ) (p : ℕ) → get_or levels (position
 unfolding from_level
 zero_level q levels p e = ap (dequantized q) e ∙ none_level q
 
-pub placed_none : (q : ℕ) (levels xs : List ℤ) → ((p : ℕ) → p < 64 → get_or xs p (pos 0) ≡ pos 0) → Placed q levels 0 xs
-placed_none q levels xs zeros p h = (λ l. absurd (omega arith), λ l. zeros p h)
+pub set_before_none : (q : ℕ) (levels xs : List ℤ) → ((p : ℕ) → p < 64 → get_or xs p (pos 0) ≡ pos 0) → SetBefore q levels 0 xs
+set_before_none q levels xs zeros p h = (λ l. absurd (omega arith), λ l. zeros p h)
 
 -- levels of 0 ask for nothing
-pub placed_past : (q : ℕ) (levels xs : List ℤ) (a b : ℕ) → AllZero levels a b → a ≤ b → Placed q levels a xs → Placed q levels b xs
-placed_past q levels xs a b zeros le before p h = (
+pub set_before_past : (q : ℕ) (levels xs : List ℤ) (a b : ℕ) → AllZero levels a b → a ≤ b → SetBefore q levels a xs → SetBefore q levels b xs
+set_before_past q levels xs a b zeros le before p h = (
   λ l. ⊎_elim (λ (k : position_of p < a). (before p h).0 k) (λ (k : a ≤ position_of p). (before p h).1 k ∙ sym (zero_level q levels p (zeros (position_of p) k l))) (cases_lt (position_of p) a),
   λ l. (before p h).1 (omega arith),
 )
 
-pub placed_zero : (q : ℕ) (levels xs : List ℤ) (i : ℕ) → get_or levels i (pos 0) ≡ pos 0 → Placed q levels i xs → Placed q levels (i + 1) xs
-placed_zero q levels xs i e before =
-    placed_past q levels xs i (i + 1) (λ j h l. ap (λ k. get_or levels k (pos 0)) (let k : j ≡ i = omega arith in k) ∙ e) (omega arith) before
+pub set_before_zero : (q : ℕ) (levels xs : List ℤ) (i : ℕ) → get_or levels i (pos 0) ≡ pos 0 → SetBefore q levels i xs → SetBefore q levels (i + 1) xs
+set_before_zero q levels xs i e before =
+    set_before_past q levels xs i (i + 1) (λ j h l. ap (λ k. get_or levels k (pos 0)) (let k : j ≡ i = omega arith in k) ∙ e) (omega arith) before
 
 here : (q : ℕ) (levels : List ℤ) (i at : ℕ) (z : ℤ) → position_of at ≡ i → z ≡ dequantized q (get_or levels i (pos 0)) → z ≡ from_level q levels at
 unfolding from_level
 here q levels i at z is e = e ∙ ap (λ j. dequantized q (get_or levels j (pos 0))) (sym is)
 
-pub placed_more : (q : ℕ) (levels xs : List ℤ) (i at : ℕ) (z : ℤ) → length xs ≡ 64 → at < 64 → position_of at ≡ i → z ≡ dequantized q (get_or levels i (pos 0))
-    → Placed q levels i xs → Placed q levels (i + 1) (set xs at z)
-placed_more q levels xs i at z len inside is e before p h =
+pub set_before_more : (q : ℕ) (levels xs : List ℤ) (i at : ℕ) (z : ℤ) → length xs ≡ 64 → at < 64 → position_of at ≡ i → z ≡ dequantized q (get_or levels i (pos 0))
+    → SetBefore q levels i xs → SetBefore q levels (i + 1) (set xs at z)
+set_before_more q levels xs i at z len inside is e before p h =
     ⊎_elim
     (λ (k : p ≡ at).
     subst (λ m. (position_of m < i + 1 → get_or (set xs at z) m (pos 0) ≡ from_level q levels m) × (i + 1 ≤ position_of m → get_or (set xs at z) m (pos 0) ≡ pos 0)) (sym k)
@@ -83,5 +83,5 @@ placed_more q levels xs i at z len inside is e before p h =
     (λ l. same ∙ (before p h).0 (omega arith), λ l. same ∙ (before p h).1 (omega arith)))
     (cases_eq p at)
 
-pub placed_all : (q : ℕ) (levels xs : List ℤ) (n : ℕ) → 64 ≤ n → Placed q levels n xs → Gives xs (from_level q levels)
-placed_all q levels xs n all done p h = (done p h).0 (let i = position_inside p h in omega arith)
+pub set_before_all : (q : ℕ) (levels xs : List ℤ) (n : ℕ) → 64 ≤ n → SetBefore q levels n xs → Gives xs (from_level q levels)
+set_before_all q levels xs n all done p h = (done p h).0 (let i = position_inside p h in omega arith)

@@ -7,7 +7,7 @@ use lib.IntN.{*ℤ_comm}
 use Rattle.transform.specs.Sums.{sum_to, sum8, floor}
 use Rattle.transform.specs.SumLaws.{sum_same, times_sum}
 use Rattle.transform.specs.Factors.{cosine, size, mirrored, signed}
-use Rattle.transform.specs.Passes.{Small, SmallRow, ZeroAt, half_sum, row_sum, rounded_sum, term, weighed}
+use Rattle.transform.specs.Passes.{Small, SmallRow, ZeroAt, half_sum, weighed_row, rounded_sum, term, weighed}
 use Rattle.transform.proofs.Finite.{all_to, below, eq_z, eq_z_eq}
 use Rattle.transform.proofs.Sizes.{abs_product, factor_size, factors_size, fits_size, product_as, sum_size}
 
@@ -52,14 +52,14 @@ module _ (x : List ℤ) (u n : ℕ) (r y : ℤ) (hu : u < 8) (hn : n < 8) (er : 
   product_size = subst (λ z. nat_abs z < 2 ^ 43) (sym product_back) (let h = term_size in omega arith)
 
 -- ---- sums and differences of what goes to bits and back
-pub plus_back : (a b : ℤ) → nat_abs a < 2 ^ 61 → nat_abs b < 2 ^ 61 → to_z w64 (of_z w64 (to_z w64 (of_z w64 a) +ℤ to_z w64 (of_z w64 b))) ≡ a +ℤ b
-plus_back a b h i = omega (arith, ints)
-
-pub minus_back : (a b : ℤ) → nat_abs a < 2 ^ 61 → nat_abs b < 2 ^ 61 → to_z w64 (of_z w64 (to_z w64 (of_z w64 a) -ℤ to_z w64 (of_z w64 b))) ≡ a -ℤ b
-minus_back a b h i = omega (arith, ints)
-
 abbrev pub back : ℤ → ℤ
 back z = to_z w64 (of_z w64 z)
+
+plus_back : (a b : ℤ) → nat_abs a < 2 ^ 61 → nat_abs b < 2 ^ 61 → back (back a +ℤ back b) ≡ a +ℤ b
+plus_back a b h i = omega (arith, ints)
+
+minus_back : (a b : ℤ) → nat_abs a < 2 ^ 61 → nat_abs b < 2 ^ 61 → back (back a -ℤ back b) ≡ a -ℤ b
+minus_back a b h i = omega (arith, ints)
 
 pub four_back : (a b c d : ℤ) → nat_abs a < 2 ^ 43 → nat_abs b < 2 ^ 43 → nat_abs c < 2 ^ 43 → nat_abs d < 2 ^ 43
     → back (back (back (back a +ℤ back b) +ℤ back c) +ℤ back d) ≡ a +ℤ b +ℤ c +ℤ d
@@ -76,9 +76,9 @@ joined : (t : ℕ → ℤ) → (t 0 +ℤ t 2 +ℤ t 4 +ℤ t 6) +ℤ (t 1 +ℤ t
 unfolding sum_to
 joined t = omega (arith, ints)
 
-pub near : (x : List ℤ) (n : ℕ) → half_sum x n 0 +ℤ half_sum x n 1 ≡ row_sum x n
-unfolding row_sum term
-near x n = joined (term x n)
+pub near : (x : List ℤ) (n : ℕ) (e o : ℤ) → e ≡ half_sum x n 0 → o ≡ half_sum x n 1 → nat_abs e < 2 ^ 45 → nat_abs o < 2 ^ 45 → back (back e +ℤ back o) ≡ weighed_row x n
+unfolding weighed_row term
+near x n e o p q h i = plus_back e o (omega arith) (omega arith) ∙ ap (λ z. z +ℤ o) p ∙ ap (λ z. half_sum x n 0 +ℤ z) q ∙ joined (term x n)
 
 -- the factors of even u are the same at n and 7 - n across, those of odd u have their signs turned
 even_factor : (u n : ℕ) → u < 4 → n < 4 → cosine (2 * u) (7 - n) ≡ cosine (2 * u) n
@@ -112,25 +112,28 @@ turned : (s t : ℕ → ℤ) → s 0 ≡ t 0 → s 2 ≡ t 2 → s 4 ≡ t 4 →
 unfolding sum_to
 turned s t a b c d e f g h = omega (arith, ints)
 
-pub far : (x : List ℤ) (n : ℕ) → n < 4 → half_sum x n 0 -ℤ half_sum x n 1 ≡ row_sum x (7 - n)
-unfolding row_sum term
-far x n h =
+odd_taken : (x : List ℤ) (n : ℕ) → n < 4 → half_sum x n 0 -ℤ half_sum x n 1 ≡ weighed_row x (7 - n)
+unfolding weighed_row term
+odd_taken x n h =
     turned (term x (7 - n)) (term x n) (even_term x 0 n (omega arith) h) (even_term x 1 n (omega arith) h) (even_term x 2 n (omega arith) h) (even_term x 3 n (omega arith) h)
     (odd_term x 0 n (omega arith) h) (odd_term x 1 n (omega arith) h) (odd_term x 2 n (omega arith) h) (odd_term x 3 n (omega arith) h)
 
+pub far : (x : List ℤ) (n : ℕ) (e o : ℤ) → n < 4 → e ≡ half_sum x n 0 → o ≡ half_sum x n 1 → nat_abs e < 2 ^ 45 → nat_abs o < 2 ^ 45 → back (back e -ℤ back o) ≡ weighed_row x (7 - n)
+far x n e o l p q h i = minus_back e o (omega arith) (omega arith) ∙ ap (λ z. z -ℤ o) p ∙ ap (λ z. half_sum x n 0 -ℤ z) q ∙ odd_taken x n l
+
 -- ---- sizes, and rows that are alike
-pub row_size : (h : ℕ) (x : List ℤ) (n : ℕ) → SmallRow h x → n < 8 → nat_abs (row_sum x n) ≤ 15303 * h
-unfolding row_sum
-row_size h x n small hn =
-    let p = sum_size 8 (λ j. cosine j n) (λ j. get_or x j (pos 0)) h (λ j k. small j k) in
+sum_small : (h : ℕ) (x : ℕ → ℤ) (n : ℕ) → ((u : ℕ) → u < 8 → nat_abs (x u) ≤ h) → n < 8 → nat_abs (sum8 (λ u. cosine u n *ℤ x u)) ≤ 15303 * h
+sum_small h x n small hn =
+    let p = sum_size 8 (λ u. cosine u n) x h small in
     let q = mul-le-mul_right h (factors_size 8 n (omega arith) hn) in
     omega arith
 
-pub quotient_size : (d : ℕ) (x : List ℤ) (n : ℕ) → SmallRow (2 ^ 17 * d) x → n < 8 → nat_abs (row_sum x n) ≤ 2147483647 * d
-quotient_size d x n small hn = let p = row_size (2 ^ 17 * d) x n small hn in omega arith
+pub weighed_size : (h : ℕ) (xs : List ℤ) (n v : ℕ) → Small h xs → n < 8 → v < 8 → nat_abs (weighed xs n v) ≤ 15303 * h
+unfolding weighed
+weighed_size h xs n v small hn hv = sum_small h (λ u. get_or xs (8 * v + u) (pos 0)) n (λ u k. small (8 * v + u) (omega arith)) hn
 
 pub same_row : (x y : List ℤ) (half d n : ℕ) → ((u : ℕ) → u < 8 → get_or x u (pos 0) ≡ get_or y u (pos 0)) → rounded_sum x half d n ≡ rounded_sum y half d n
-unfolding rounded_sum row_sum
+unfolding rounded_sum weighed_row
 same_row x y half d n e = ap (λ z. floor (z +ℤ pos half) d) (sum_same 8 _ _ (λ u h. ap (λ z. cosine u n *ℤ z) (e u h)))
 
 -- a row of which only the first number is not 0
@@ -146,21 +149,23 @@ first_only t z =
     let g = z 7 (omega arith) (omega arith) in
     omega (arith, ints, a, b, c, d, e, f, g)
 
-pub flat : (x : List ℤ) (n : ℕ) → ((u : ℕ) → 1 ≤ u → u < 8 → get_or x u (pos 0) ≡ pos 0) → row_sum x n ≡ term x 0 0
-unfolding row_sum term cosine
+pub flat : (x : List ℤ) (n : ℕ) → ((u : ℕ) → 1 ≤ u → u < 8 → get_or x u (pos 0) ≡ pos 0) → weighed_row x n ≡ term x 0 0
+unfolding weighed_row term cosine
 flat x n z = first_only (λ u. cosine u n *ℤ get_or x u (pos 0)) (λ u h i. ap (λ y. cosine u n *ℤ y) (z u h i) ∙ *ℤ-zero (cosine u n))
 
--- a sum that is rounded, as the code has it
-pub quotient_of : (d : ℕ) (x : List ℤ) (n : ℕ) (s : ℤ) → SmallRow (2 ^ 17 * d) x → n < 8 → s ≡ row_sum x n → nat_abs s < 2 ^ 46 → nat_abs (back s) ≤ 2147483647 * d
-quotient_of d x n s small hn e size =
-    let is : back s ≡ s = omega (arith, ints) in
-    subst (λ z. nat_abs z ≤ 2147483647 * d) (sym (is ∙ e)) (quotient_size d x n small hn)
+pub flat_back : (x : List ℤ) (n : ℕ) (t : ℤ) → ((u : ℕ) → 1 ≤ u → u < 8 → get_or x u (pos 0) ≡ pos 0) → t ≡ term x 0 0 → nat_abs t < 2 ^ 43 → back t ≡ weighed_row x n
+flat_back x n t z e h = let plain : back t ≡ t = omega (arith, ints) in plain ∙ e ∙ sym (flat x n z)
 
-pub quotient_is : (half d : ℕ) (x : List ℤ) (n : ℕ) (s r : ℤ) → s ≡ row_sum x n → nat_abs s < 2 ^ 46 → SFits w32 r → r ≡ floor (back s +ℤ pos half) d → to_z w32 (of_z w32 r) ≡ rounded_sum x half d n
+-- ---- a sum that is rounded
+pub quotient_of : (d : ℕ) (x : List ℤ) (n : ℕ) (s : ℤ) → SmallRow (2 ^ 17 * d) x → n < 8 → s ≡ weighed_row x n → nat_abs s ≤ 2147483647 * d
+unfolding weighed_row
+quotient_of d x n s small hn e =
+    let p = sum_small (2 ^ 17 * d) (λ u. get_or x u (pos 0)) n small hn in
+    subst (λ z. nat_abs z ≤ 2147483647 * d) (sym e) (omega arith)
+
+pub quotient_is : (half d : ℕ) (x : List ℤ) (n : ℕ) (s r : ℤ) → s ≡ weighed_row x n → SFits w32 r → r ≡ floor (s +ℤ pos half) d → to_z w32 (of_z w32 r) ≡ rounded_sum x half d n
 unfolding rounded_sum
-quotient_is half d x n s r e size fits is =
-    let plain : back s ≡ s = omega (arith, ints) in
-    to_z-of_z fits ∙ is ∙ ap (λ z. floor (z +ℤ pos half) d) (plain ∙ e)
+quotient_is half d x n s r e fits is = to_z-of_z fits ∙ is ∙ ap (λ z. floor (z +ℤ pos half) d) e
 
 -- ---- rows with zeros, as the code reads and writes them
 abbrev pub back32 : ℤ → ℤ
@@ -179,11 +184,3 @@ module _ (x : List ℤ) (last : ZeroAt x 4 × ZeroAt x 5 × ZeroAt x 6 × ZeroAt
 
   pub flat_from : ZeroAt x 1 × ZeroAt x 2 × ZeroAt x 3 → (u : ℕ) → 1 ≤ u → u < 8 → ZeroAt x u
   flat_from rest u h l = cases8 (λ k. 1 ≤ k → ZeroAt x k) (λ i. absurd (omega arith)) (λ i. rest.0) (λ i. rest.1) (λ i. rest.2) (λ i. last.0) (λ i. last.1) (λ i. last.2) (λ i. last.3) u l h
-
--- the size of a row's sums in a block
-pub weighed_size : (h : ℕ) (xs : List ℤ) (n v : ℕ) → Small h xs → n < 8 → v < 8 → nat_abs (weighed xs n v) ≤ 15303 * h
-unfolding weighed
-weighed_size h xs n v small hn hv =
-    let p = sum_size 8 (λ j. cosine j n) (λ j. get_or xs (8 * v + j) (pos 0)) h (λ j k. small (8 * v + j) (omega arith)) in
-    let q = mul-le-mul_right h (factors_size 8 n (omega arith) hn) in
-    omega arith

@@ -56,9 +56,6 @@ factor_size u n hu hn =
 pub product_back : (w : Width) (a b : ℤ) → SFits w a → SFits w b → to_z w (of_z w a) *ℤ to_z w (of_z w b) ≡ a *ℤ b
 product_back w a b f g = ap (λ z. z *ℤ to_z w (of_z w b)) (to_z-of_z f) ∙ ap (λ z. a *ℤ z) (to_z-of_z g)
 
-pub sum_back : (w : Width) (a b p q : ℤ) → a ≡ p → b ≡ q → SFits w q → a +ℤ to_z w (of_z w b) ≡ p +ℤ q
-sum_back w a b p q e d f = ap (λ z. z +ℤ to_z w (of_z w b)) e ∙ ap (λ z. p +ℤ z) (ap (λ z. to_z w (of_z w z)) d ∙ to_z-of_z f)
-
 pub product_as : (w : Width) (r t y : ℤ) → r ≡ t → SFits w t → SFits w y → to_z w (of_z w r) *ℤ to_z w (of_z w y) ≡ t *ℤ y
 product_as w r t y e f g = ap (λ z. to_z w (of_z w z) *ℤ to_z w (of_z w y)) e ∙ product_back w t y f g
 

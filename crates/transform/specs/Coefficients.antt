@@ -23,6 +23,6 @@ abbrev pub AllZero : List ℤ → ℕ → ℕ → Type 0
 AllZero levels a b = (i : ℕ) → a ≤ i → i < b → slice_index_or levels i (pos 0) ≡ pos 0
 
 -- the coefficients for the levels before position n are set, and the others are 0
-abbrev pub Placed : ℕ → List ℤ → ℕ → List ℤ → Type 0
-Placed quantizer levels n xs =
+abbrev pub SetBefore : ℕ → List ℤ → ℕ → List ℤ → Type 0
+SetBefore quantizer levels n xs =
     (p : ℕ) → p < 64 → (position_of p < n → slice_index_or xs p (pos 0) ≡ from_level quantizer levels p) × (n ≤ position_of p → slice_index_or xs p (pos 0) ≡ pos 0)

@@ -8,8 +8,8 @@ unfoldable pub weighed : List ℤ → ℕ → ℕ → ℤ
 weighed xs n v = sum8 (λ u. cosine u n *ℤ slice_index_or xs (8 * v + u) (pos 0))
 
 -- what stands at the place p after a pass: the sum of row p % 8 for p / 8 across, rounded and divided
-unfoldable pub passed : List ℤ → ℕ → ℕ → ℕ → ℤ
-passed xs half d p = floor (weighed xs (p / 8) (p % 8) +ℤ pos half) d
+unfoldable pub after_pass : List ℤ → ℕ → ℕ → ℕ → ℤ
+after_pass xs half d p = floor (weighed xs (p / 8) (p % 8) +ℤ pos half) d
 
 -- each number of a block is at most h in size
 abbrev pub Small : ℕ → List ℤ → Type 0
@@ -22,15 +22,15 @@ term x n u = cosine u n *ℤ slice_index_or x u (pos 0)
 abbrev pub half_sum : List ℤ → ℕ → ℕ → ℤ
 half_sum x n first = term x n first +ℤ term x n (first + 2) +ℤ term x n (first + 4) +ℤ term x n (first + 6)
 
-unfoldable pub row_sum : List ℤ → ℕ → ℤ
-row_sum x n = sum8 (λ u. cosine u n *ℤ slice_index_or x u (pos 0))
+unfoldable pub weighed_row : List ℤ → ℕ → ℤ
+weighed_row x n = sum8 (λ u. cosine u n *ℤ slice_index_or x u (pos 0))
 
 unfoldable pub rounded_sum : List ℤ → ℕ → ℕ → ℕ → ℤ
-rounded_sum x half d n = floor (row_sum x n +ℤ pos half) d
+rounded_sum x half d n = floor (weighed_row x n +ℤ pos half) d
 
 -- the eight numbers of a row are f 0 to f 7, or at most h in size
-abbrev pub Row : List ℤ → (ℕ → ℤ) → Type 0
-Row x f = (u : ℕ) → u < 8 → slice_index_or x u (pos 0) ≡ f u
+abbrev pub RowIs : List ℤ → (ℕ → ℤ) → Type 0
+RowIs x f = (u : ℕ) → u < 8 → slice_index_or x u (pos 0) ≡ f u
 
 abbrev pub SmallRow : ℕ → List ℤ → Type 0
 SmallRow h x = (u : ℕ) → u < 8 → unsigned_abs (slice_index_or x u (pos 0)) ≤ h

@@ -1,7 +1,7 @@
 // From the levels of a block, by zigzag position, to its coefficients, by place.
 ghost use Rattle.std.specs.Prelude.{◌≡◌, ◌+◌, ◌<◌, ◌≤◌, true, pos, negsuc, ◌≤ℤ◌};
 ghost use Rattle.transform.specs.Blocks.{Gives};
-ghost use Rattle.transform.specs.Coefficients.{AllZero, Placed, block_coefficients, from_level};
+ghost use Rattle.transform.specs.Coefficients.{AllZero, SetBefore, block_coefficients, from_level};
 ghost use Rattle.transform.specs.Inverse.{limited};
 ghost use Rattle.transform.specs.Levels.{dequantized, first_coefficient, rebuilt_size};
 ghost use Rattle.transform.specs.Signs.{with_sign};
@@ -95,8 +95,8 @@ fn are_zero(levels: &[i8; 64], first: usize) -> bool
 // Sets the coefficients for the levels at the eight positions from here on, where those before are set and the others are 0.
 fn set_eight(out: &mut [i16; 64], quantizer: u8, levels: &[i8; 64], first: usize)
     requires room { first ≤ 56 }
-    requires before { Placed quantizer levels.now first out.old }
-    ensures { Placed quantizer levels.now (first + 8) out.new }
+    requires before { SetBefore quantizer levels.now first out.old }
+    ensures { SetBefore quantizer levels.now (first + 8) out.new }
 {
     for position in first..first + 8 {
         let level = levels[position];

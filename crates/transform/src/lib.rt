@@ -5,7 +5,7 @@ ghost use Rattle.std.specs.Prelude.{◌≡◌, ℕ, ◌+◌, ◌-◌, ◌*◌, �
 ghost use Rattle.transform.specs.Blocks.{Gives, Shows};
 ghost use Rattle.transform.specs.Factors.{cosine};
 ghost use Rattle.transform.specs.Inverse.{direct, limited, ranged, twice, two_pass};
-ghost use Rattle.transform.specs.Passes.{Row, Small, SmallRow, ZeroAt, half_sum, passed, rounded_sum, row_sum, term};
+ghost use Rattle.transform.specs.Passes.{RowIs, Small, SmallRow, ZeroAt, after_pass, half_sum, rounded_sum, term};
 ghost use Rattle.transform.specs.Sums.{floor};
 ghost use Rattle.transform.specs.Laws.{InRange, KeepsZeros, LimitsFirst, two_pass_range, two_pass_zeros, two_pass_ends, direct_range, direct_zeros, direct_ends};
 
@@ -83,38 +83,30 @@ fn half_sum(x: &[i32; 8], first: usize, n: usize) -> i64
     term(x, first, n) + term(x, first + 2, n) + term(x, first + 4, n) + term(x, first + 6, n)
 }
 
-// The sums of a row for n and 7 - n across: the factors for odd u have their signs turned in the second.
-fn mirrored(x: &[i32; 8], n: usize) -> (i64, i64)
-    requires { n < 4 }
-    ensures near { result.0 ≡ row_sum x.now n }
-    ensures far { result.1 ≡ row_sum x.now (7 - n) }
-    ensures small { (unsigned_abs result.0 < 2 ^ 46) × (unsigned_abs result.1 < 2 ^ 46) }
+// The sums of a row for n and 7 - n across, rounded: the factors for odd u have their signs turned in the second.
+#[inline(always)]
+fn rounded_pair(x: &[i32; 8], n: usize, quotient: RoundedShift) -> (i32, i32)
+    requires small { SmallRow (2 ^ 17 * 2 ^ quotient.shift) x.now }
+    requires first_half { n < 4 }
+    ensures near { result.0 ≡ rounded_sum x.now quotient.half (2 ^ quotient.shift) n }
+    ensures far { result.1 ≡ rounded_sum x.now quotient.half (2 ^ quotient.shift) (7 - n) }
 {
     let even = half_sum(x, 0, n);
     let odd = half_sum(x, 1, n);
-    (even + odd, even - odd)
+    (quotient.of(even + odd), quotient.of(even - odd))
 }
 
 // The sums of a row, rounded. (Inlined, so that where 0 is written into a row the products with it are left out.)
 #[inline(always)]
 fn whole_row(x: &[i32; 8], quotient: RoundedShift) -> [i32; 8]
     requires small { SmallRow (2 ^ 17 * 2 ^ quotient.shift) x.now }
-    ensures { Row result (rounded_sum x.now quotient.half (2 ^ quotient.shift)) }
+    ensures { RowIs result (rounded_sum x.now quotient.half (2 ^ quotient.shift)) }
 {
-    let (a, h) = mirrored(x, 0);
-    let (b, g) = mirrored(x, 1);
-    let (c, f) = mirrored(x, 2);
-    let (d, e) = mirrored(x, 3);
-    [
-        quotient.of(a),
-        quotient.of(b),
-        quotient.of(c),
-        quotient.of(d),
-        quotient.of(e),
-        quotient.of(f),
-        quotient.of(g),
-        quotient.of(h),
-    ]
+    let (a, h) = rounded_pair(x, 0, quotient);
+    let (b, g) = rounded_pair(x, 1, quotient);
+    let (c, f) = rounded_pair(x, 2, quotient);
+    let (d, e) = rounded_pair(x, 3, quotient);
+    [a, b, c, d, e, f, g, h]
 }
 
 // Whether the second half of a row is 0.
@@ -135,7 +127,7 @@ fn is_flat(x: &[i32; 8]) -> bool
 fn flat_row(x: &[i32; 8], quotient: RoundedShift) -> [i32; 8]
     requires small { SmallRow (2 ^ 17 * 2 ^ quotient.shift) x.now }
     requires flat { (u : ℕ) → 1 ≤ u → u < 8 → slice_index_or x.now u (pos 0) ≡ pos 0 }
-    ensures { Row result (rounded_sum x.now quotient.half (2 ^ quotient.shift)) }
+    ensures { RowIs result (rounded_sum x.now quotient.half (2 ^ quotient.shift)) }
 {
     [quotient.of(term(x, 0, 0)); 8]
 }
@@ -143,7 +135,7 @@ fn flat_row(x: &[i32; 8], quotient: RoundedShift) -> [i32; 8]
 // The same with no work for the numbers that are 0, as most are.
 fn row(x: &[i32; 8], quotient: RoundedShift) -> [i32; 8]
     requires small { SmallRow (2 ^ 17 * 2 ^ quotient.shift) x.now }
-    ensures { Row result (rounded_sum x.now quotient.half (2 ^ quotient.shift)) }
+    ensures { RowIs result (rounded_sum x.now quotient.half (2 ^ quotient.shift)) }
 {
     if !is_half_row(x) {
         whole_row(x, quotient)
@@ -155,9 +147,9 @@ fn row(x: &[i32; 8], quotient: RoundedShift) -> [i32; 8]
 }
 
 // The row v of a block.
-fn row_of(x: &[i32; 64], v: usize) -> [i32; 8]
+fn block_row(x: &[i32; 64], v: usize) -> [i32; 8]
     requires { v < 8 }
-    ensures { Row result (λ u. slice_index_or x.now (8 * v + u) (pos 0)) }
+    ensures { RowIs result (λ u. slice_index_or x.now (8 * v + u) (pos 0)) }
 {
     let at = 8 * v;
     [
@@ -185,11 +177,11 @@ fn set_column(x: &mut [i32; 64], v: usize, column: [i32; 8])
 // Each row's eight sums, as a column of what is returned: two passes put each number back into its place.
 fn pass(x: &[i32; 64], quotient: RoundedShift) -> [i32; 64]
     requires small { Small (2 ^ 17 * 2 ^ quotient.shift) x.now }
-    ensures { Gives result (passed x.now quotient.half (2 ^ quotient.shift)) }
+    ensures { Gives result (after_pass x.now quotient.half (2 ^ quotient.shift)) }
 {
     let mut out = [0; 64];
     for v in 0..8 {
-        set_column(&mut out, v, row(&row_of(x, v), quotient));
+        set_column(&mut out, v, row(&block_row(x, v), quotient));
     }
     out
 }
