@@ -1,5 +1,4 @@
 pub mod Components
 pub mod Corrections
 pub mod Levels
-pub mod Eights
-pub mod Squares
+pub mod Fill

@@ -34,8 +34,8 @@ pub struct Four {
     pub d: u8,
 }
 
-// A sample raised or lowered, and held from 0 to 255. (Both are worked out and one is taken, so that eight of them go side by side.)
-fn moved(sample: u8, by: u8, is_up: bool) -> u8
+// A sample raised or lowered, and brought into 0 to 255. (Both are worked out and one is taken, so that eight of them go side by side.)
+fn raised_or_lowered(sample: u8, by: u8, is_up: bool) -> u8
     ensures { result ≡ (if is_up then min (sample + by) 255 else sample - by) }
 {
     let raised = sample.saturating_add(by);
@@ -78,7 +78,10 @@ impl Four {
         let by = self.inner(strength);
         let (up, down) = self.steps();
         let is_up = down <= up;
-        (moved(self.b, by, is_up), moved(self.c, by, !is_up))
+        (
+            raised_or_lowered(self.b, by, is_up),
+            raised_or_lowered(self.c, by, !is_up),
+        )
     }
 
     // The new `a` and `d`, which move towards each other and so stay from 0 to 255.
@@ -88,7 +91,10 @@ impl Four {
     {
         let by = self.outer(strength);
         let is_up = self.a < self.d;
-        (moved(self.a, by, is_up), moved(self.d, by, !is_up))
+        (
+            raised_or_lowered(self.a, by, is_up),
+            raised_or_lowered(self.d, by, !is_up),
+        )
     }
 }
 

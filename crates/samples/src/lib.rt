@@ -11,7 +11,7 @@ mod vectors;
 pub use ages::{NEVER, next_age};
 pub use deblocking::{Four, FourRows, deblock, deblock_rows};
 pub use prediction::{
-    Rounding, UnknownRounding, add_residual, add_residuals, between_four, between_two, predict,
+    Rounding, UnknownRounding, add_residual, add_residuals, between_four, between_two,
     squares_between_four, squares_between_two,
 };
 pub use vectors::{chroma_component, median, vector_component};

@@ -1,7 +1,7 @@
 // The prediction of one sample, and its sum with a residual.
 ghost use Rattle.std.specs.Prelude.{◌≡◌, ℕ, ◌<◌, ◌≤◌, pos, ◌+ℤ◌, slice_index, slice_index_or};
 ghost use Rattle.samples.specs.Clipping.{clipped};
-ghost use Rattle.samples.specs.Prediction.{between_four, between_two, predicted, rounding_named, rounding_of};
+ghost use Rattle.samples.specs.Prediction.{between_four, between_two, rounding_named, rounding_of};
 
 // A picture's rounding of halves: up is the number 0, down the number 1.
 #[derive(Clone, Copy)]
@@ -82,26 +82,6 @@ pub fn squares_between_four(
         *sample = between_four(rounding, a[i], b[i], c[i], d[i]);
     }
     square
-}
-
-// The prediction where half steps lead across and down, which are two values of the vector and no choice of a step. `a` lies at the place itself, `b` right of it, `c` below it, `d` below `b`.
-pub fn predict(
-    rounding: Rounding,
-    half_across: bool,
-    half_down: bool,
-    a: u8,
-    b: u8,
-    c: u8,
-    d: u8,
-) -> u8
-    ensures { result ≡ predicted (rounding_of rounding) half_across half_down a b c d }
-{
-    match (half_across, half_down) {
-        (false, false) => a,
-        (true, false) => between_two(rounding, a, b),
-        (false, true) => between_two(rounding, a, c),
-        (true, true) => between_four(rounding, a, b, c, d),
-    }
 }
 
 // A prediction and its residual, brought into 0 to 255.

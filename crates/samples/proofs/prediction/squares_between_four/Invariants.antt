@@ -1,7 +1,7 @@
 use Rattle.std.proofs.Common.{get_or}
 use Rattle.samples.specs.Prediction.{between_four, rounding_of}
-use Rattle.samples.proofs.Squares.{Filled}
+use Rattle.samples.proofs.Fill.{Filled}
 use Rattle.samples.proofs.prediction.squares_between_four.Given as goal
 
 abbrev pub invariant-loop-i : goal.invariant-loop-i
-invariant-loop-i l = Filled (λ k. between_four (rounding_of l.rounding) (get_or l.a k 0) (get_or l.b k 0) (get_or l.c k 0) (get_or l.d k 0)) l.i l.sample-items
+invariant-loop-i l = Filled 64 (λ k. between_four (rounding_of l.rounding) (get_or l.a k 0) (get_or l.b k 0) (get_or l.c k 0) (get_or l.d k 0)) l.i l.sample-items

@@ -5,4 +5,4 @@ use Rattle.samples.proofs.deblocking.Four.outer_samples.Goals as goal
 pub returns : goal.returns
 returns c =
     let h = outer_moved c.args.strength c.args.self.now _ c.outer-by.ensures (omega arith) (omega arith) in
-    record { a = ap pos c.moved.ensures ∙ h.0; d = ap pos c.moved-2.ensures ∙ h.1 }
+    record { a = ap pos c.raised_or_lowered.ensures ∙ h.0; d = ap pos c.raised_or_lowered-2.ensures ∙ h.1 }

@@ -1,5 +1,0 @@
--- A loop that writes f k at each place k of an array of 64 has come to place n. (`pictures` says the same: these two crates know nothing of each other.)
-use Rattle.std.proofs.Common.{◌≡◌, ℕ, ◌<◌, List, length, get_or}
-
-abbrev pub Filled : (ℕ → ℕ) → ℕ → List ℕ → Type 0
-Filled f n xs = (length xs ≡ 64) × ((k : ℕ) → k < n → get_or xs k 0 ≡ f k)
