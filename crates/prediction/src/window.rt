@@ -1,9 +1,9 @@
 // Prediction of a square of samples. Coordinates are kept 64 above their value, so that they are never below 0 while they are moved.
-ghost use Rattle.std.specs.Prelude.{◌≡◌, ℕ, ◌+◌, ◌*◌, ◌/◌, ◌%◌, ◌<◌, ◌≤◌, ◌&&◌, true, false, ℤ, MatchOption, pos, ◌+ℤ◌, ◌-ℤ◌, nat_le, slice_index};
+ghost use Rattle.std.specs.Prelude.{◌≡◌, ◌+◌, ◌*◌, ◌<◌, ◌≤◌, ◌&&◌, ℤ, pos, ◌+ℤ◌, ◌-ℤ◌, nat_le};
 ghost use Rattle.pictures.specs.Pictures.{side};
 ghost use Rattle.samples.specs.Prediction.{rounding_of};
 ghost use Rattle.transform.specs.Sums.{floor};
-ghost use Rattle.prediction.specs.Window.{held, is_half, is_segment, prediction_at, window};
+ghost use Rattle.prediction.specs.Window.{PredictsSquare, ShowsSquare, brought_inside, is_half, window};
 
 use pictures::{Segment, Store, side_of};
 use samples::{Rounding, squares_between_four, squares_between_two};
@@ -34,22 +34,22 @@ fn moved(coordinate: usize, component: i8) -> usize
 }
 
 // A coordinate that is 64 above its value, brought from low to before high.
-fn hold(low: usize, high: usize, coordinate: usize) -> usize
+fn bring_inside(low: usize, high: usize, coordinate: usize) -> usize
     requires some { low < high }
     requires few { high ≤ 65535 }
-    ensures { result ≡ held low high (pos coordinate -ℤ pos 64) }
+    ensures { result ≡ brought_inside low high (pos coordinate -ℤ pos 64) }
 {
     coordinate.min(high + 63).max(low + 64) - 64
 }
 
 // A coordinate of a plane, 64 above its value, brought into the macroblocks from low to before high.
-fn hold_inside(plane: u8, low: u16, high: u16, coordinate: usize) -> usize
+fn bring_into_segment(plane: u8, low: u16, high: u16, coordinate: usize) -> usize
     requires some { low < high }
     requires few { high ≤ 22 }
-    ensures { result ≡ held (low * side plane) (high * side plane) (pos coordinate -ℤ pos 64) }
+    ensures { result ≡ brought_inside (low * side plane) (high * side plane) (pos coordinate -ℤ pos 64) }
 {
     let side = side_of(plane);
-    hold(low as usize * side, high as usize * side, coordinate)
+    bring_inside(low as usize * side, high as usize * side, coordinate)
 }
 
 // Whether eight coordinates of a plane from one on, which is 64 above its value, lie inside the macroblocks from low to before high.
@@ -59,16 +59,6 @@ fn lies_inside(plane: u8, low: u16, high: u16, coordinate: usize) -> bool
 {
     let side = side_of(plane);
     low as usize * side + 64 <= coordinate && coordinate + 8 <= high as usize * side + 64
-}
-
-// Whether a rectangle of macroblocks has one at least, and no more across and down than the largest picture.
-fn is_segment(segment: Segment) -> bool
-    ensures { result ≡ is_segment segment }
-{
-    segment.left < segment.right
-        && segment.right <= 22
-        && segment.top < segment.bottom
-        && segment.bottom <= 22
 }
 
 // What a segment is predicted from: the finished picture, of which it sees no more than what lies inside the segment. A segment has a macroblock
@@ -84,23 +74,6 @@ pub struct Window<'a, S> {
     pub ghost few_rows: { segment.bottom ≤ 22 },
 }
 
-impl<'a, S> Window<'a, S> {
-    // The window of a segment, and absence for what is no segment.
-    pub fn new(finished: &'a S, segment: Segment, rounding: Rounding) -> Option<Window<'a, S>>
-        ensures { MatchOption result (is_segment segment ≡ false) (λ w. (is_segment segment ≡ true) × (w.finished ≡ finished.entry) × (w.segment ≡ segment) × (w.rounding ≡ rounding)) }
-    {
-        if is_segment(segment) {
-            Some(Window {
-                finished,
-                segment,
-                rounding,
-            })
-        } else {
-            None
-        }
-    }
-}
-
 impl<S: Store> Window<'_, S> {
     // The finished picture as the segment sees it, at coordinates that are 64 above their value.
     fn sample(&self, plane: u8, across: usize, down: usize) -> u8
@@ -114,8 +87,8 @@ impl<S: Store> Window<'_, S> {
         } = self.segment;
         self.finished.sample(
             plane,
-            hold_inside(plane, left, right, across),
-            hold_inside(plane, top, bottom, down),
+            bring_into_segment(plane, left, right, across),
+            bring_into_segment(plane, top, bottom, down),
         )
     }
 
@@ -123,7 +96,7 @@ impl<S: Store> Window<'_, S> {
     fn square(&self, plane: u8, across: usize, down: usize) -> [u8; 64]
         requires across { across ≤ 65801 }
         requires down { down ≤ 65801 }
-        ensures { (k : ℕ) → k < 64 → slice_index result k ≡ window self.now.segment (S.picture self.now.finished.now).sample plane (pos (across + k % 8) -ℤ pos 64) (pos (down + k / 8) -ℤ pos 64) }
+        ensures { ShowsSquare result self.now.segment (S.picture self.now.finished.now).sample plane across down }
     {
         let Segment {
             left,
@@ -134,14 +107,14 @@ impl<S: Store> Window<'_, S> {
         if lies_inside(plane, left, right, across) && lies_inside(plane, top, bottom, down) {
             return self.finished.read_square(plane, across - 64, down - 64);
         }
-        self.held_square(plane, across, down)
+        self.square_by_samples(plane, across, down)
     }
 
     // The same, sample by sample.
-    fn held_square(&self, plane: u8, across: usize, down: usize) -> [u8; 64]
+    fn square_by_samples(&self, plane: u8, across: usize, down: usize) -> [u8; 64]
         requires across { across ≤ 65801 }
         requires down { down ≤ 65801 }
-        ensures { (k : ℕ) → k < 64 → slice_index result k ≡ window self.now.segment (S.picture self.now.finished.now).sample plane (pos (across + k % 8) -ℤ pos 64) (pos (down + k / 8) -ℤ pos 64) }
+        ensures { ShowsSquare result self.now.segment (S.picture self.now.finished.now).sample plane across down }
     {
         let mut square = [0; 64];
         for row in 0..8 {
@@ -156,7 +129,7 @@ impl<S: Store> Window<'_, S> {
     pub fn predict_square(&self, plane: u8, x: usize, y: usize, across: i8, down: i8) -> [u8; 64]
         requires across { x ≤ 65535 }
         requires down { y ≤ 65535 }
-        ensures { (k : ℕ) → k < 64 → slice_index result k ≡ prediction_at self.now.segment (rounding_of self.now.rounding) (S.picture self.now.finished.now).sample plane (x + k % 8) (y + k / 8) across down }
+        ensures { PredictsSquare result self.now.segment (rounding_of self.now.rounding) (S.picture self.now.finished.now).sample plane x y across down }
     {
         let u = moved(x, across);
         let v = moved(y, down);

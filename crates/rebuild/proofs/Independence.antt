@@ -9,7 +9,7 @@ use Rattle.motion.specs.declared.vectors.Vector.{Vector}
 use Rattle.motion.specs.Vectors.{vectors_of}
 use Rattle.pictures.specs.declared.layouts.Segment.{Segment}
 use Rattle.pictures.specs.Pictures.{Picture, covers, side}
-use Rattle.prediction.specs.Window.{held, prediction_at, window}
+use Rattle.prediction.specs.Window.{brought_inside, prediction_at, window}
 use Rattle.deblocking.specs.Edges.{filtered}
 use Rattle.rebuild.specs.Blocks.{predicted_from}
 use Rattle.rebuild.specs.Laws.{Independent}
@@ -20,8 +20,8 @@ use Rattle.rebuild.proofs.Cells.{cell_below}
 use Rattle.rebuild.proofs.Sixths.{agreeing}
 
 -- a coordinate that was brought inside is inside
-held_in : (low high : ℕ) (z : ℤ) → low < high → (low ≤ held low high z) × (held low high z < high)
-unfolding held
+held_in : (low high : ℕ) (z : ℤ) → low < high → (low ≤ brought_inside low high z) × (brought_inside low high z < high)
+unfolding brought_inside
 held_in low high (pos n) h = (grind arith, grind arith)
 held_in low high (negsuc n) h = (omega arith, omega arith)
 
@@ -31,7 +31,7 @@ times_side a b (suc q) h = let z : side (suc q) ≡ 8 = grind (arith, nat_tests)
 
 module _ (s : Segment) (wide : s.left < s.right) (high : s.top < s.bottom) where
   -- so a window shows the segment's places only
-  seen_inside : (q : ℕ) (x y : ℤ) → covers s q (held (s.left * side q) (s.right * side q) x) (held (s.top * side q) (s.bottom * side q) y) ≡ true
+  seen_inside : (q : ℕ) (x y : ℤ) → covers s q (brought_inside (s.left * side q) (s.right * side q) x) (brought_inside (s.top * side q) (s.bottom * side q) y) ≡ true
   unfolding covers
   seen_inside q x y =
       let a = held_in (s.left * side q) (s.right * side q) x (times_side s.left s.right q wide) in

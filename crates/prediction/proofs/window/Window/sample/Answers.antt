@@ -3,4 +3,4 @@ use Rattle.prediction.proofs.window.Window.sample.Goals as goal
 
 pub returns : goal.returns
 unfolding window
-returns g c = simp (c.sample.ensures, c.hold_inside.ensures, c.hold_inside-2.ensures)
+returns g c = simp (c.sample.ensures, c.bring_into_segment.ensures, c.bring_into_segment-2.ensures)

@@ -1,7 +1,7 @@
 use Rattle.std.proofs.Common.{◌+◌, ◌*◌, ◌/◌, ◌%◌, pos, ◌-ℤ◌}
 use Rattle.pictures.proofs.Squares.{Filled}
 use Rattle.prediction.specs.Window.{window}
-use Rattle.prediction.proofs.window.Window.held_square.Given as goal
+use Rattle.prediction.proofs.window.Window.square_by_samples.Given as goal
 
 -- the rows before this one are filled
 abbrev pub invariant-loop-row : goal.invariant-loop-row
