@@ -12,8 +12,8 @@ abbrev pub excess : ℤ → ℤ → ℕ
 excess a b = unsigned_abs (int_max a b -ℤ b)
 
 -- the errors with one more result, of which the reference wants another
-abbrev pub noted : Errors → ℤ → ℤ → Errors
-noted e got want =
+abbrev pub errors_with : Errors → ℤ → ℤ → Errors
+errors_with e got want =
     record {
       peak = max e.peak (unsigned_abs (got -ℤ want));
       over = sum32 e.over (excess got want);
@@ -28,8 +28,8 @@ sum64 a b = min (a + b) (2 ^ 64 - 1)
 abbrev pub no_totals : Totals
 no_totals = record { peak = 0; square = 0; squares = 0; mean = 0; over = 0; under = 0 }
 
-abbrev pub joined : Totals → Errors → Totals
-joined t e =
+abbrev pub totals_with : Totals → Errors → Totals
+totals_with t e =
     record {
       peak = max t.peak e.peak;
       square = max t.square e.squares;

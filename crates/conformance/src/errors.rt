@@ -1,6 +1,6 @@
 // What is measured of a transform's errors, and the limits.
 ghost use Rattle.std.specs.Prelude.{◌≡◌, ◌+◌, ◌-◌, ◌^◌, ◌<◌, ◌&&◌, ◌-ℤ◌, fold, unsigned_abs};
-ghost use Rattle.conformance.specs.Errors.{allowed, excess, joined, no_totals, noted};
+ghost use Rattle.conformance.specs.Errors.{allowed, errors_with, excess, no_totals, totals_with};
 
 // The errors at one place of a block.
 #[derive(Clone, Copy, Default)]
@@ -14,7 +14,7 @@ pub struct Errors {
 impl Errors {
     // With one more result, of which the reference wants another.
     pub fn note(self, got: i16, want: i16) -> Errors
-        ensures { result ≡ noted self got want }
+        ensures { result ≡ errors_with self got want }
     {
         let size = gap(got, want);
         Errors {
@@ -54,7 +54,7 @@ pub struct Totals {
 impl Totals {
     // With one more place.
     pub fn join(self, here: Errors) -> Totals
-        ensures { result ≡ joined self here }
+        ensures { result ≡ totals_with self here }
     {
         Totals {
             peak: self.peak.max(here.peak),
@@ -87,7 +87,7 @@ impl Totals {
 
 // The figures of all places.
 pub fn totals_of(places: &[Errors; 64]) -> Totals
-    ensures { result ≡ fold joined no_totals places.now }
+    ensures { result ≡ fold totals_with no_totals places.now }
 {
     places
         .iter()

@@ -1,5 +1,5 @@
 // The candidates of a macroblock's vector, and the vector itself.
-ghost use Rattle.std.specs.Prelude.{◌≡◌, ℕ, ◌<◌};
+ghost use Rattle.std.specs.Prelude.{◌≡◌, ◌<◌};
 ghost use Rattle.motion.specs.Vectors.{above_of, above_right_of, corrected, left_of, middle_of, predictor_of, vector_for, vectors_at};
 
 use crate::vectors::Vector;

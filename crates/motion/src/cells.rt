@@ -1,5 +1,5 @@
 // The table cells of a segment: vectors, ages and marks.
-ghost use Rattle.std.specs.Prelude.{◌≡◌, ℕ, ◌<◌, ◌≤◌, ◌++◌, length, drop};
+ghost use Rattle.std.specs.Prelude.{◌≡◌, ◌<◌, ◌++◌, length, drop};
 ghost use Rattle.records.specs.Again.{records_of};
 ghost use Rattle.motion.specs.Cells.{Room, ages_of, mark_of, marks_of};
 ghost use Rattle.motion.specs.Vectors.{vectors_of};

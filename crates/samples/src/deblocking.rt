@@ -1,6 +1,6 @@
 // The deblocking filter of four samples over an edge of two blocks, and of eight such fours beside each other. The rule has signed corrections; the code has
 // their sizes and goes by which side is greater, so that all of it is unsigned.
-ghost use Rattle.std.specs.Prelude.{◌≡◌, ℕ, true, if◌then◌else◌, ◌<◌, ◌+◌, ◌-◌, ◌*◌, min, pos, ◌+ℤ◌, ◌-ℤ◌, unsigned_abs};
+ghost use Rattle.std.specs.Prelude.{◌≡◌, ℕ, if◌then◌else◌, ◌<◌, ◌+◌, ◌-◌, ◌*◌, min, pos, ◌+ℤ◌, ◌-ℤ◌, unsigned_abs};
 ghost use Rattle.samples.specs.Clipping.{clipped};
 ghost use Rattle.samples.specs.Deblocking.{deblocked, four_at, inner_of, new_a, new_d, outer_of, strength_of};
 
