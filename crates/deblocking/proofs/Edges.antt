@@ -7,7 +7,7 @@ use Rattle.samples.specs.Deblocking.{deblocked, strength_of}
 use Rattle.pictures.specs.Pictures.{Picture, has, here, inside, painted, side, written}
 use Rattle.pictures.specs.declared.layouts.Segment.{Segment}
 use Rattle.pictures.proofs.Painting.{same_picture, none, step}
-use Rattle.deblocking.specs.Edges.{turn, across_of, down_of, edge, role, first, four_from, of_role, smoothed, border, edges, edges_in}
+use Rattle.deblocking.specs.Edges.{turn, across_of, down_of, edge, role, first, four_from, of_role, deblocked_at, border, edges, edges_in}
 
 -- what holds with 16 samples to a macroblock and with 8 holds in each plane
 pub by_side : (P : ℕ → Type 0) (p : ℕ) → P 16 → P 8 → P (side p)
@@ -45,10 +45,10 @@ pub unpainted : (done : ℕ → ℕ → ℕ → Bool) (new : ℕ → ℕ → ℕ
 unpainted done new f q u v e = cond-false _ _ _ (and_right (has f q u v) _ e)
 
 -- what is filtered rests on the quantizer and on the edge's four samples
-pub smoothed_same : (k l : ℕ → ℕ → ℕ → Option ℕ) (f g : ℕ → ℕ → ℕ → ℕ) (q u v : ℕ) → k q u (edge v) ≡ l q u (edge v) → role v < 4 → 1 ≤ edge v
-    → ((j : ℕ) → j < 4 → f q u (first (edge v) + j) ≡ g q u (first (edge v) + j)) → smoothed k f q u v ≡ smoothed l g q u v
-unfolding smoothed
-smoothed_same k l f g q u v same r pos kept =
+pub deblocked_same : (k l : ℕ → ℕ → ℕ → Option ℕ) (f g : ℕ → ℕ → ℕ → ℕ) (q u v : ℕ) → k q u (edge v) ≡ l q u (edge v) → role v < 4 → 1 ≤ edge v
+    → ((j : ℕ) → j < 4 → f q u (first (edge v) + j) ≡ g q u (first (edge v) + j)) → deblocked_at k f q u v ≡ deblocked_at l g q u v
+unfolding deblocked_at
+deblocked_same k l f g q u v same r pos kept =
     let z : first (edge v) + 0 ≡ first (edge v) = omega arith in
     let m : first (edge v) + role v ≡ v = omega arith in
     let e0 : f q u (first (edge v)) ≡ g q u (first (edge v)) = ap (f q u) (sym z) ∙ kept 0 (omega arith) ∙ ap (g q u) z in
@@ -56,25 +56,25 @@ smoothed_same k l f g q u v same r pos kept =
     simp (same, e, e0, kept 1 (omega arith), kept 2 (omega arith), kept 3 (omega arith))
 
 -- a part that lies apart from those filtered before is filtered from what stood there at first: f₁ is f so far, f₂ what the part makes of it
-pub then_smoothed : (done₁ done₂ done : ℕ → ℕ → ℕ → Bool) (k k₂ : ℕ → ℕ → ℕ → Option ℕ) (f f₁ f₂ : Picture)
-    → f₁ ≡ painted done₁ (smoothed k f.sample) f → f₂ ≡ painted done₂ (smoothed k₂ f₁.sample) f₁
+pub then_deblocked : (done₁ done₂ done : ℕ → ℕ → ℕ → Bool) (k k₂ : ℕ → ℕ → ℕ → Option ℕ) (f f₁ f₂ : Picture)
+    → f₁ ≡ painted done₁ (deblocked_at k f.sample) f → f₂ ≡ painted done₂ (deblocked_at k₂ f₁.sample) f₁
     → ((q u v : ℕ) → done q u v ≡ (done₂ q u v || done₁ q u v))
     → ((q u v j : ℕ) → done₂ q u v ≡ true → j < 4 → done₁ q u (first (edge v) + j) ≡ false)
     → ((q u v : ℕ) → done₂ q u v ≡ true → (role v < 4) × (1 ≤ edge v) × (k₂ q u (edge v) ≡ k q u (edge v)))
-    → f₂ ≡ painted done (smoothed k f.sample) f
-then_smoothed done₁ done₂ done k k₂ f f₁ f₂ was now joins apart says =
-    now ∙ ap (λ m. painted done₂ (smoothed k₂ m.sample) m) was
+    → f₂ ≡ painted done (deblocked_at k f.sample) f
+then_deblocked done₁ done₂ done k k₂ f f₁ f₂ was now joins apart says =
+    now ∙ ap (λ m. painted done₂ (deblocked_at k₂ m.sample) m) was
     ∙ same_picture _ _ refl refl (λ q u v. at q u v (has f q u v) refl (done₂ q u v) refl)
   where
     mid : Picture
-    mid = painted done₁ (smoothed k f.sample) f
+    mid = painted done₁ (deblocked_at k f.sample) f
 
     at : (q u v : ℕ) (b : Bool) → has f q u v ≡ b → (d : Bool) → done₂ q u v ≡ d
-        → (painted done₂ (smoothed k₂ mid.sample) mid).sample q u v ≡ (painted done (smoothed k f.sample) f).sample q u v
+        → (painted done₂ (deblocked_at k₂ mid.sample) mid).sample q u v ≡ (painted done (deblocked_at k f.sample) f).sample q u v
     at q u v true e true d =
         let s = says q u v d in
-        let same : smoothed k₂ mid.sample q u v ≡ smoothed k f.sample q u v
-        = smoothed_same k₂ k mid.sample f.sample q u v s.2 s.0 s.1 (λ j l. unpainted done₁ (smoothed k f.sample) f q u _ (apart q u v j d l)) in
+        let same : deblocked_at k₂ mid.sample q u v ≡ deblocked_at k f.sample q u v
+        = deblocked_same k₂ k mid.sample f.sample q u v s.2 s.0 s.1 (λ j l. unpainted done₁ (deblocked_at k f.sample) f q u _ (apart q u v j d l)) in
         simp (e, d, joins q u v) same
     at q u v true e false d = simp (e, d, joins q u v)
     at q u v false e d i = simp e
@@ -88,33 +88,33 @@ place_is p x n q u v l = grind (arith, nat_tests)
 abbrev pub tap : ℕ → Picture → ℕ → ℕ → ℕ → ℕ → ℕ
 tap quantizer f p x n j = of_role j (deblocked (strength_of quantizer) (four_from f.sample p x (first n)))
 
-pub smoothed_at : (quantizer : ℕ) (f : Picture) (p x n j : ℕ) → 1 ≤ n → j < 4 → smoothed (λ _ _ _. Some quantizer) f.sample p x (first n + j) ≡ tap quantizer f p x n j
-unfolding smoothed
-smoothed_at quantizer f p x n j l m =
+pub deblocked_tap : (quantizer : ℕ) (f : Picture) (p x n j : ℕ) → 1 ≤ n → j < 4 → deblocked_at (λ _ _ _. Some quantizer) f.sample p x (first n + j) ≡ tap quantizer f p x n j
+unfolding deblocked_at
+deblocked_tap quantizer f p x n j l m =
     let e : edge (first n + j) ≡ n = omega arith in
     let r : role (first n + j) ≡ j = omega arith in
     rw (e, r)
 
-smoothed_first : (quantizer : ℕ) (f : Picture) (p x n : ℕ) → 1 ≤ n → smoothed (λ _ _ _. Some quantizer) f.sample p x (first n) ≡ tap quantizer f p x n 0
-smoothed_first quantizer f p x n l =
+deblocked_first : (quantizer : ℕ) (f : Picture) (p x n : ℕ) → 1 ≤ n → deblocked_at (λ _ _ _. Some quantizer) f.sample p x (first n) ≡ tap quantizer f p x n 0
+deblocked_first quantizer f p x n l =
     let z : first n ≡ first n + 0 = omega arith in
-    ap (smoothed (λ _ _ _. Some quantizer) f.sample p x) z ∙ smoothed_at quantizer f p x n 0 l (omega arith)
+    ap (deblocked_at (λ _ _ _. Some quantizer) f.sample p x) z ∙ deblocked_tap quantizer f p x n 0 l (omega arith)
 
 -- four writings filter an edge at one place along it
 pub four_writings : (quantizer : ℕ) (f f₁ f₂ f₃ f₄ : Picture) (p x n a b c d : ℕ) → 1 ≤ n
     → a ≡ tap quantizer f p x n 0 → b ≡ tap quantizer f p x n 1 → c ≡ tap quantizer f p x n 2 → d ≡ tap quantizer f p x n 3
     → f₁ ≡ written f p x (first n) a → f₂ ≡ written f₁ p x (first n + 1) b → f₃ ≡ written f₂ p x (first n + 2) c → f₄ ≡ written f₃ p x (first n + 3) d
-    → f₄ ≡ painted (edges p x (x + 1) n (n + 1)) (smoothed (λ _ _ _. Some quantizer) f.sample) f
+    → f₄ ≡ painted (edges p x (x + 1) n (n + 1)) (deblocked_at (λ _ _ _. Some quantizer) f.sample) f
 four_writings quantizer f f₁ f₂ f₃ f₄ p x n a b c d l is-a is_b is_c is-d w₁ w₂ w₃ w₄ =
-    let new = smoothed (λ _ _ _. Some quantizer) f.sample in
+    let new = deblocked_at (λ _ _ _. Some quantizer) f.sample in
     let g₁ = step (λ q u v. false) (λ q u v. here p x (first n) q u v || false) new f f f₁ p x (first n) a (none _ new f (λ q u v. refl)) w₁
-    (is-a ∙ sym (smoothed_first quantizer f p x n l)) (λ q u v. refl) in
+    (is-a ∙ sym (deblocked_first quantizer f p x n l)) (λ q u v. refl) in
     let g₂ = step _ (λ q u v. here p x (first n + 1) q u v || (here p x (first n) q u v || false)) new f f₁ f₂ p x (first n + 1) b g₁ w₂
-    (is_b ∙ sym (smoothed_at quantizer f p x n 1 l (omega arith))) (λ q u v. refl) in
+    (is_b ∙ sym (deblocked_tap quantizer f p x n 1 l (omega arith))) (λ q u v. refl) in
     let g₃ = step _ (λ q u v. here p x (first n + 2) q u v || (here p x (first n + 1) q u v || (here p x (first n) q u v || false))) new f f₂ f₃ p x (first n + 2) c g₂ w₃
-    (is_c ∙ sym (smoothed_at quantizer f p x n 2 l (omega arith))) (λ q u v. refl) in
+    (is_c ∙ sym (deblocked_tap quantizer f p x n 2 l (omega arith))) (λ q u v. refl) in
     step (λ q u v. here p x (first n + 2) q u v || (here p x (first n + 1) q u v || (here p x (first n) q u v || false))) (edges p x (x + 1) n (n + 1)) new f f₃ f₄ p x (first n + 3) d g₃ w₄
-    (is-d ∙ sym (smoothed_at quantizer f p x n 3 l (omega arith))) (λ q u v. place_is p x n q u v l)
+    (is-d ∙ sym (deblocked_tap quantizer f p x n 3 l (omega arith))) (λ q u v. place_is p x n q u v l)
 
 -- parts of edges: none yet, one more along an edge, one edge more
 pub none_along : (p low from to q u v : ℕ) → edges p low low from to q u v ≡ false

@@ -3,8 +3,8 @@ use Rattle.std.proofs.Common.{◌≡◌, ℕ, ◌+◌, ◌-◌, ◌*◌, ◌/◌
 use Rattle.std.proofs.lemmas.Bool.{and_from, both_ways, le-leb, lt-ltb}
 use Rattle.pictures.specs.Pictures.{Picture, covers, has, painted, side}
 use Rattle.pictures.specs.declared.layouts.Segment.{Segment}
-use Rattle.deblocking.specs.Edges.{Local, SameMarks, across_of, down_of, edge, role, first, smoothed, mark_of, quantizer_at, edges_in, filtered, filtered_over, turn, turn_segment}
-use Rattle.deblocking.proofs.Edges.{by_side, inside_says, smoothed_same, unpainted}
+use Rattle.deblocking.specs.Edges.{Local, SameMarks, across_of, down_of, edge, role, first, deblocked_at, mark_at, quantizer_at, edges_in, filtered, filtered_over, turn, turn_segment}
+use Rattle.deblocking.proofs.Edges.{by_side, inside_says, deblocked_same, unpainted}
 
 -- all four samples of an edge inside a segment are the segment's
 rows_covered : (q a b n j : ℕ) → a * side q < n * 8 → n * 8 < b * side q → j < 4 → (a * side q ≤ first n + j) × (first n + j < b * side q)
@@ -50,8 +50,8 @@ turned_covers false s q u v = refl
 
 -- outside, one direction of edges changes nothing
 kept_over : (t : Bool) (marks : List (Option ℕ)) (s : Segment) (f : Picture) (q u v : ℕ) → covers s q u v ≡ false → (filtered_over t marks s f).sample q u v ≡ f.sample q u v
-kept_over true marks s f q u v e = unpainted (edges_in (turn_segment true s)) (smoothed (quantizer_at marks f.wide true) (turn true f).sample) (turn true f) q v u (not_covered (turn_segment true s) q v u (sym (turned_covers true s q v u) ∙ e))
-kept_over false marks s f q u v e = unpainted (edges_in s) (smoothed (quantizer_at marks f.wide false) f.sample) f q u v (not_covered s q u v e)
+kept_over true marks s f q u v e = unpainted (edges_in (turn_segment true s)) (deblocked_at (quantizer_at marks f.wide true) (turn true f).sample) (turn true f) q v u (not_covered (turn_segment true s) q v u (sym (turned_covers true s q v u) ∙ e))
+kept_over false marks s f q u v e = unpainted (edges_in s) (deblocked_at (quantizer_at marks f.wide false) f.sample) f q u v (not_covered s q u v e)
 
 -- two pictures have the same samples at a segment's places of one plane
 abbrev pub SamePlane : Segment → ℕ → Picture → Picture → Type 0
@@ -60,20 +60,20 @@ SamePlane s q f g = (u v : ℕ) → covers s q u v ≡ true → f.sample q u v �
 -- inside, it rests on the samples of the plane and the quantizers there
 same_over : (k l : ℕ → ℕ → ℕ → Option ℕ) (s : Segment) (f g : Picture) → f.wide ≡ g.wide → f.high ≡ g.high
     → ((q u v : ℕ) → edges_in s q u v ≡ true → k q u (edge v) ≡ l q u (edge v))
-    → (q : ℕ) → SamePlane s q f g → SamePlane s q (painted (edges_in s) (smoothed k f.sample) f) (painted (edges_in s) (smoothed l g.sample) g)
+    → (q : ℕ) → SamePlane s q f g → SamePlane s q (painted (edges_in s) (deblocked_at k f.sample) f) (painted (edges_in s) (deblocked_at l g.sample) g)
 same_over k l s f g w h same-k q same u v c = at (has f q u v) refl (edges_in s q u v) refl
   where
     at : (b : Bool) → has f q u v ≡ b → (d : Bool) → edges_in s q u v ≡ d
-        → (painted (edges_in s) (smoothed k f.sample) f).sample q u v ≡ (painted (edges_in s) (smoothed l g.sample) g).sample q u v
-    at b e false d = unpainted (edges_in s) (smoothed k f.sample) f q u v d ∙ same u v c ∙ sym (unpainted (edges_in s) (smoothed l g.sample) g q u v d)
+        → (painted (edges_in s) (deblocked_at k f.sample) f).sample q u v ≡ (painted (edges_in s) (deblocked_at l g.sample) g).sample q u v
+    at b e false d = unpainted (edges_in s) (deblocked_at k f.sample) f q u v d ∙ same u v c ∙ sym (unpainted (edges_in s) (deblocked_at l g.sample) g q u v d)
     at false e true d =
         let e' : has g q u v ≡ false = rw (← w, ← h) e in
         simp (e, e') (same u v c)
     at true e true d =
         let e' : has g q u v ≡ true = rw (← w, ← h) e in
         let i = inside_says s q u v d in
-        let z : smoothed k f.sample q u v ≡ smoothed l g.sample q u v
-        = smoothed_same k l f.sample g.sample q u v (same-k q u v d) i.2 (omega (arith, i.3)) (λ j m. same u _ (four_covered s q u v j d m)) in
+        let z : deblocked_at k f.sample q u v ≡ deblocked_at l g.sample q u v
+        = deblocked_same k l f.sample g.sample q u v (same-k q u v d) i.2 (omega (arith, i.3)) (λ j m. same u _ (four_covered s q u v j d m)) in
         simp (e, e', d) z
 
 -- both macroblocks at an edge inside a segment are the segment's
@@ -85,7 +85,7 @@ before q a n h = omega (arith, h)
 
 marked : (t : Bool) (marks marks' : List (Option ℕ)) (w : ℕ) (s : Segment) → SameMarks w s marks marks'
     → (i a : ℕ) → ((turn_segment t s).left ≤ i) × (i < (turn_segment t s).right) → ((turn_segment t s).top ≤ a) × (a < (turn_segment t s).bottom)
-    → mark_of marks w (across_of t i a) (down_of t i a) ≡ mark_of marks' w (across_of t i a) (down_of t i a)
+    → mark_at marks w (across_of t i a) (down_of t i a) ≡ mark_at marks' w (across_of t i a) (down_of t i a)
 marked true marks marks' w s same i a h m = same a i m.0 m.1 h.0 h.1
 marked false marks marks' w s same i a h m = same i a h.0 h.1 m.0 m.1
 

@@ -5,9 +5,9 @@ use Rattle.samples.specs.Deblocking.{deblocked, four_at, strength_of}
 use Rattle.samples.specs.declared.deblocking.FourRows.{FourRows}
 use Rattle.pictures.specs.Pictures.{Picture, Square, has, painted, painted_square, square_at}
 use Rattle.pictures.proofs.Painting.{same_picture}
-use Rattle.deblocking.specs.Edges.{across_of, down_of, edges, first, four_from, of_role, smoothed, turn}
+use Rattle.deblocking.specs.Edges.{across_of, down_of, edges, first, four_from, of_role, deblocked_at, turn}
 use Rattle.deblocking.specs.Squares.{four_across, kept_at}
-use Rattle.deblocking.proofs.Edges.{smoothed_at, tap, turned_inside}
+use Rattle.deblocking.proofs.Edges.{deblocked_tap, tap, turned_inside}
 
 -- which of the square's places are next to the edge
 abbrev next_to : ℕ → Bool
@@ -84,12 +84,12 @@ Filtered quantizer f p x n new =
     (i j : ℕ) → i < 8 → j < 8 → new i j ≡ cond (next_to j) (tap quantizer f p (x + i) n (j - 2)) (f.sample p (x + i) (corner n + j))
 
 square_filtered : (quantizer : ℕ) (f : Picture) (p x n : ℕ) (new : ℕ → ℕ → ℕ) → 1 ≤ n → Filtered quantizer f p x n new
-    → painted (square_at p x (corner n)) (λ _ u v. new (u - x) (v - corner n)) f ≡ painted (edges p x (x + 8) n (n + 1)) (smoothed (λ _ _ _. Some quantizer) f.sample) f
+    → painted (square_at p x (corner n)) (λ _ u v. new (u - x) (v - corner n)) f ≡ painted (edges p x (x + 8) n (n + 1)) (deblocked_at (λ _ _ _. Some quantizer) f.sample) f
 square_filtered quantizer f p x n new l is =
     same_picture _ _ refl refl (λ q u v. at q u v (has f q u v) refl (square_at p x (corner n) q u v) refl (next_to (v - corner n)) refl)
   where
     after : ℕ → ℕ → ℕ → ℕ
-    after = smoothed (λ _ _ _. Some quantizer) f.sample
+    after = deblocked_at (λ _ _ _. Some quantizer) f.sample
 
     at : (q u v : ℕ) (b : Bool) → has f q u v ≡ b → (d : Bool) → square_at p x (corner n) q u v ≡ d → (m : Bool) → next_to (v - corner n) ≡ m
         → (painted (square_at p x (corner n)) (λ _ u v. new (u - x) (v - corner n)) f).sample q u v ≡ (painted (edges p x (x + 8) n (n + 1)) after f).sample q u v
@@ -101,7 +101,7 @@ square_filtered quantizer f p x n new l is =
         let over : first n + (j - 2) ≡ v = grind (arith, nat_tests) in
         let z : new i j ≡ after q u v
         = is i j (omega (arith, w.1, w.2)) (omega (arith, w.3, w.4)) ∙ ap (λ b. cond b (tap quantizer f p (x + i) n (j - 2)) (f.sample p (x + i) (corner n + j))) m
-        ∙ sym (smoothed_at quantizer f p (x + i) n (j - 2) l (grind (arith, nat_tests)))
+        ∙ sym (deblocked_tap quantizer f p (x + i) n (j - 2) l (grind (arith, nat_tests)))
         ∙ ap (λ k. after k (x + i) (first n + (j - 2))) w.0 ∙ ap (λ k. after q k (first n + (j - 2))) back ∙ ap (after q u) over in
         simp (edge_places p x n q u v l, e, d, m) z
     at q u v true e true d false m =
@@ -136,19 +136,19 @@ module _ (quantizer : ℕ) (t : Bool) (f : Picture) (p along n : ℕ) (values : 
           let a = at 0 (omega arith) ∙ ap ((turn t f).sample p (along + i)) z in
           λ k. record { a = a k; b = at 1 (omega arith) k; c = at 2 (omega arith) k; d = at 3 (omega arith) k }
 
-  pub square_smoothed : (f₁ : Picture) (changed : List ℕ)
+  pub square_deblocked : (f₁ : Picture) (changed : List ℕ)
       → ((i j : ℕ) → i < 8 → j < 8 → get_or changed (kept_at t i j) 0 ≡ cond (next_to j) (of_role (j - 2) (four_at new i)) (get_or values (kept_at t i j) 0))
       → f₁ ≡ painted_square f p (across_of t along (corner n)) (down_of t along (corner n)) changed
-      → turn t f₁ ≡ painted (edges p along (along + 8) n (n + 1)) (smoothed (λ _ _ _. Some quantizer) (turn t f).sample) (turn t f)
-  square_smoothed f₁ changed set wrote =
+      → turn t f₁ ≡ painted (edges p along (along + 8) n (n + 1)) (deblocked_at (λ _ _ _. Some quantizer) (turn t f).sample) (turn t f)
+  square_deblocked f₁ changed set wrote =
       ap (turn t) wrote ∙ square_written t f p along (corner n) changed
       ∙ square_filtered quantizer (turn t f) p along n (λ i j. get_or changed (kept_at t i j) 0) l
       (λ i j h k. set i j h k ∙ ap (λ z. cond (next_to j) z (get_or values (kept_at t i j) 0)) (taps i (j - 2) h)
       ∙ ap (cond (next_to j) (tap quantizer (turn t f) p (along + i) n (j - 2))) (reads i j h k))
 
   -- where the filter keeps them all, nothing has to be written
-  pub square_kept : new ≡ rows → turn t f ≡ painted (edges p along (along + 8) n (n + 1)) (smoothed (λ _ _ _. Some quantizer) (turn t f).sample) (turn t f)
-  square_kept same = square_smoothed f values (λ i j h k. set i j h (next_to j) refl) (same_square f p _ _ values was)
+  pub square_kept : new ≡ rows → turn t f ≡ painted (edges p along (along + 8) n (n + 1)) (deblocked_at (λ _ _ _. Some quantizer) (turn t f).sample) (turn t f)
+  square_kept same = square_deblocked f values (λ i j h k. set i j h (next_to j) refl) (same_square f p _ _ values was)
     where
       set : (i j : ℕ) → i < 8 → (b : Bool) → next_to j ≡ b → get_or values (kept_at t i j) 0 ≡ cond b (of_role (j - 2) (four_at new i)) (get_or values (kept_at t i j) 0)
       set i j h true e = sym (ap (λ r. of_role (j - 2) (four_at r i)) same ∙ ap (of_role (j - 2)) (middle i h) ∙ of_four t values i j e)

@@ -48,25 +48,25 @@ four_from f q u v = record { a = f q u v; b = f q u (v + 1); c = f q u (v + 2); 
 abbrev pub of_role : ℕ → Four → ℕ
 of_role j s = cond (j == 0) s.a (cond (j == 1) s.b (cond (j == 2) s.c s.d))
 
-abbrev pub given : {X : Type 0} → Option ℕ → X → (ℕ → X) → X
-given None keep change = keep
-given (Some quantizer) keep change = change quantizer
+abbrev pub where_marked : {X : Type 0} → Option ℕ → X → (ℕ → X) → X
+where_marked None keep change = keep
+where_marked (Some quantizer) keep change = change quantizer
 
 -- the sample that a place at an edge gets, where k has the quantizer of each plane's edges at each place along them: what the deblocking
 -- of the edge's four samples makes of it, and what stood there where there is no quantizer
-unfoldable pub smoothed : (ℕ → ℕ → ℕ → Option ℕ) → (ℕ → ℕ → ℕ → ℕ) → ℕ → ℕ → ℕ → ℕ
-smoothed k f q u v =
-    given (k q u (edge v)) (f q u v) (λ quantizer. of_role (role v) (deblocked (strength_of quantizer) (four_from f q u (first (edge v)))))
+unfoldable pub deblocked_at : (ℕ → ℕ → ℕ → Option ℕ) → (ℕ → ℕ → ℕ → ℕ) → ℕ → ℕ → ℕ → ℕ
+deblocked_at k f q u v =
+    where_marked (k q u (edge v)) (f q u v) (λ quantizer. of_role (role v) (deblocked (strength_of quantizer) (four_from f q u (first (edge v)))))
 
 -- the mark of a macroblock, in a table by rows of so many columns: its quantizer, or absence
-abbrev pub mark_of : List (Option ℕ) → ℕ → ℕ → ℕ → Option ℕ
-mark_of marks columns column row = slice_index_or marks (row * columns + column) None
+abbrev pub mark_at : List (Option ℕ) → ℕ → ℕ → ℕ → Option ℕ
+mark_at marks columns column row = slice_index_or marks (row * columns + column) None
 
 -- the mark that edge n is filtered by between two macroblocks of this number along it: that of the one after the edge, else of the one before
 abbrev pub edge_mark : List (Option ℕ) → ℕ → Bool → ℕ → ℕ → ℕ → Option ℕ
 edge_mark marks columns turned side along n =
-    option_or (mark_of marks columns (across_of turned along (n * 8 / side)) (down_of turned along (n * 8 / side)))
-    (mark_of marks columns (across_of turned along ((n * 8 - 1) / side)) (down_of turned along ((n * 8 - 1) / side)))
+    option_or (mark_at marks columns (across_of turned along (n * 8 / side)) (down_of turned along (n * 8 / side)))
+    (mark_at marks columns (across_of turned along ((n * 8 - 1) / side)) (down_of turned along ((n * 8 - 1) / side)))
 
 -- the quantizer by which edge n of plane q is filtered at u along it, if any
 abbrev pub quantizer_at : List (Option ℕ) → ℕ → Bool → ℕ → ℕ → ℕ → Option ℕ
@@ -88,7 +88,7 @@ edges_in s q u v =
 -- the picture with a segment's horizontal edges filtered, or, turned, with its vertical ones
 abbrev pub filtered_over : Bool → List (Option ℕ) → Segment → Picture → Picture
 filtered_over turned marks s f =
-    turn turned (painted (edges_in (turn_segment turned s)) (smoothed (quantizer_at marks f.wide turned) (turn turned f).sample) (turn turned f))
+    turn turned (painted (edges_in (turn_segment turned s)) (deblocked_at (quantizer_at marks f.wide turned) (turn turned f).sample) (turn turned f))
 
 -- the picture with a segment's edges filtered: the horizontal ones first, then in the result the vertical ones
 abbrev pub filtered : List (Option ℕ) → Segment → Picture → Picture
@@ -97,7 +97,7 @@ filtered marks s f = filtered_over true marks s (filtered_over false marks s f)
 -- two tables have the same marks in a segment's cells, and two pictures the same samples at its places
 abbrev pub SameMarks : ℕ → Segment → List (Option ℕ) → List (Option ℕ) → Type 0
 SameMarks columns s marks marks' =
-    (column row : ℕ) → s.left ≤ column → column < s.right → s.top ≤ row → row < s.bottom → mark_of marks columns column row ≡ mark_of marks' columns column row
+    (column row : ℕ) → s.left ≤ column → column < s.right → s.top ≤ row → row < s.bottom → mark_at marks columns column row ≡ mark_at marks' columns column row
 
 abbrev pub SameSamples : Segment → Picture → Picture → Type 0
 SameSamples s f g = (q u v : ℕ) → covers s q u v ≡ true → f.sample q u v ≡ g.sample q u v

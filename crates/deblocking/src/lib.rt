@@ -4,7 +4,7 @@
 
 ghost use Rattle.std.specs.Prelude.{◌≡◌, ◌+◌, ◌*◌, ◌/◌, ◌≤◌, ◌&&◌, max, Some, ◌==◌};
 ghost use Rattle.pictures.specs.Pictures.{painted, side, written};
-ghost use Rattle.deblocking.specs.Edges.{Local, across_of, border, down_of, edge_mark, edges, edges_in, filtered, filtered_over, is_vertical, mark_of, quantizer_at, smoothed, turn, turn_segment};
+ghost use Rattle.deblocking.specs.Edges.{Local, across_of, border, down_of, edge_mark, edges, edges_in, filtered, filtered_over, is_vertical, mark_at, quantizer_at, deblocked_at, turn, turn_segment};
 
 mod squares;
 
@@ -61,7 +61,7 @@ impl Marks<'_> {
     fn at(self, across: usize, down: usize) -> Option<u8>
         requires across { across ≤ 2000000 }
         requires down { down ≤ 2000000 }
-        ensures { result ≡ mark_of self.entry.cells.now self.entry.columns across down }
+        ensures { result ≡ mark_at self.entry.cells.now self.entry.columns across down }
     {
         tables::read(self.cells, down * self.columns as usize + across).flatten()
     }
@@ -96,7 +96,7 @@ impl Edge {
     // The mark of the macroblock of this number along the edge that a coordinate over it lies in.
     fn mark_at(self, marks: Marks, along: u16, over: usize) -> Option<u8>
         requires { over ≤ 2000000 }
-        ensures { let t = is_vertical self.direction in result ≡ mark_of marks.entry.cells.now marks.entry.columns (across_of t along (over / side self.plane)) (down_of t along (over / side self.plane)) }
+        ensures { let t = is_vertical self.direction in result ≡ mark_at marks.entry.cells.now marks.entry.columns (across_of t along (over / side self.plane)) (down_of t along (over / side self.plane)) }
     {
         let side = side_of(self.plane);
         let (across, down) = self.direction.place(along as usize, over / side);
@@ -115,8 +115,8 @@ impl Edge {
     }
 
     // Filters the edge at one place along it.
-    fn smooth_place<S: Store>(self, store: &mut S, along: usize, quantizer: u8)
-        ensures { let t = is_vertical self.direction in turn t (S.picture store.new) ≡ painted (edges self.plane along (along + 1) self.number (self.number + 1)) (smoothed (λ _ _ _. Some quantizer) (turn t (S.picture store.old)).sample) (turn t (S.picture store.old)) }
+    fn filter_place<S: Store>(self, store: &mut S, along: usize, quantizer: u8)
+        ensures { let t = is_vertical self.direction in turn t (S.picture store.new) ≡ painted (edges self.plane along (along + 1) self.number (self.number + 1)) (deblocked_at (λ _ _ _. Some quantizer) (turn t (S.picture store.old)).sample) (turn t (S.picture store.old)) }
     {
         let first = self.number * 8 - 2;
         let four = Four {
@@ -134,10 +134,10 @@ impl Edge {
 
     // Filters the edge at eight places along it, whose samples lie in a square that has the edge in its middle. (Where all of them stay, as they often do,
     // none is written.)
-    fn smooth_square<S: Store>(self, store: &mut S, along: usize, quantizer: u8)
+    fn filter_square<S: Store>(self, store: &mut S, along: usize, quantizer: u8)
         requires along { along ≤ 65535 }
         requires over { self.number * 8 ≤ 65535 }
-        ensures { let t = is_vertical self.direction in turn t (S.picture store.new) ≡ painted (edges self.plane along (along + 8) self.number (self.number + 1)) (smoothed (λ _ _ _. Some quantizer) (turn t (S.picture store.old)).sample) (turn t (S.picture store.old)) }
+        ensures { let t = is_vertical self.direction in turn t (S.picture store.new) ≡ painted (edges self.plane along (along + 8) self.number (self.number + 1)) (deblocked_at (λ _ _ _. Some quantizer) (turn t (S.picture store.old)).sample) (turn t (S.picture store.old)) }
     {
         let (across, down) = self.direction.place(along, self.number * 8 - 4);
         let mut square = store.read_square(self.plane, across, down);
@@ -151,55 +151,55 @@ impl Edge {
     }
 
     // Filters the edge from here along, so many times eight places.
-    fn smooth_squares<S: Store>(self, store: &mut S, from: usize, count: usize, quantizer: u8)
+    fn filter_squares<S: Store>(self, store: &mut S, from: usize, count: usize, quantizer: u8)
         requires along { from + 8 * count ≤ 65535 }
         requires over { self.number * 8 ≤ 65535 }
-        ensures { let t = is_vertical self.direction in turn t (S.picture store.new) ≡ painted (edges self.plane from (from + 8 * count) self.number (self.number + 1)) (smoothed (λ _ _ _. Some quantizer) (turn t (S.picture store.old)).sample) (turn t (S.picture store.old)) }
+        ensures { let t = is_vertical self.direction in turn t (S.picture store.new) ≡ painted (edges self.plane from (from + 8 * count) self.number (self.number + 1)) (deblocked_at (λ _ _ _. Some quantizer) (turn t (S.picture store.old)).sample) (turn t (S.picture store.old)) }
     {
         for square in 0..count {
-            self.smooth_square(store, from + 8 * square, quantizer);
+            self.filter_square(store, from + 8 * square, quantizer);
         }
     }
 
     // Filters the edge between two macroblocks of this number along it, place by place.
-    fn smooth_places<S: Store>(self, store: &mut S, along: u16, quantizer: u8)
-        ensures { let t = is_vertical self.direction in turn t (S.picture store.new) ≡ painted (edges self.plane (along * side self.plane) ((along + 1) * side self.plane) self.number (self.number + 1)) (smoothed (λ _ _ _. Some quantizer) (turn t (S.picture store.old)).sample) (turn t (S.picture store.old)) }
+    fn filter_places<S: Store>(self, store: &mut S, along: u16, quantizer: u8)
+        ensures { let t = is_vertical self.direction in turn t (S.picture store.new) ≡ painted (edges self.plane (along * side self.plane) ((along + 1) * side self.plane) self.number (self.number + 1)) (deblocked_at (λ _ _ _. Some quantizer) (turn t (S.picture store.old)).sample) (turn t (S.picture store.old)) }
     {
         let width = side_of(self.plane);
         for place in along as usize * width..(along as usize + 1) * width {
-            self.smooth_place(store, place, quantizer);
+            self.filter_place(store, place, quantizer);
         }
     }
 
     // Filters the edge between two macroblocks of this number along it. (No picture is so large that the bounds are passed, but an edge does not know it.)
-    fn smooth_pair<S: Store>(self, store: &mut S, along: u16, quantizer: u8)
-        ensures { let t = is_vertical self.direction in turn t (S.picture store.new) ≡ painted (edges self.plane (along * side self.plane) ((along + 1) * side self.plane) self.number (self.number + 1)) (smoothed (λ _ _ _. Some quantizer) (turn t (S.picture store.old)).sample) (turn t (S.picture store.old)) }
+    fn filter_pair<S: Store>(self, store: &mut S, along: u16, quantizer: u8)
+        ensures { let t = is_vertical self.direction in turn t (S.picture store.new) ≡ painted (edges self.plane (along * side self.plane) ((along + 1) * side self.plane) self.number (self.number + 1)) (deblocked_at (λ _ _ _. Some quantizer) (turn t (S.picture store.old)).sample) (turn t (S.picture store.old)) }
     {
         let width = side_of(self.plane);
         let from = along as usize * width;
         if from + width <= 65535 && self.number * 8 <= 65535 {
-            self.smooth_squares(store, from, width / 8, quantizer);
+            self.filter_squares(store, from, width / 8, quantizer);
         } else {
-            self.smooth_places(store, along, quantizer);
+            self.filter_places(store, along, quantizer);
         }
     }
 
     // The same where there is a mark, and nothing where there is none.
-    fn smooth_marked<S: Store>(self, store: &mut S, along: u16, mark: Option<u8>)
-        ensures { let t = is_vertical self.direction in turn t (S.picture store.new) ≡ painted (edges self.plane (along * side self.plane) ((along + 1) * side self.plane) self.number (self.number + 1)) (smoothed (λ _ _ _. mark) (turn t (S.picture store.old)).sample) (turn t (S.picture store.old)) }
+    fn filter_marked<S: Store>(self, store: &mut S, along: u16, mark: Option<u8>)
+        ensures { let t = is_vertical self.direction in turn t (S.picture store.new) ≡ painted (edges self.plane (along * side self.plane) ((along + 1) * side self.plane) self.number (self.number + 1)) (deblocked_at (λ _ _ _. mark) (turn t (S.picture store.old)).sample) (turn t (S.picture store.old)) }
     {
         if let Some(quantizer) = mark {
-            self.smooth_pair(store, along, quantizer);
+            self.filter_pair(store, along, quantizer);
         }
     }
 
     // Filters the edge between the macroblocks from left to before right along it, by the mark of each pair of them.
-    fn smooth<S: Store>(self, store: &mut S, marks: Marks, left: u16, right: u16)
-        ensures { let t = is_vertical self.direction in turn t (S.picture store.new) ≡ painted (edges self.plane (left * side self.plane) (right * side self.plane) self.number (self.number + 1)) (smoothed (quantizer_at marks.entry.cells.now marks.entry.columns t) (turn t (S.picture store.old)).sample) (turn t (S.picture store.old)) }
+    fn filter_along<S: Store>(self, store: &mut S, marks: Marks, left: u16, right: u16)
+        ensures { let t = is_vertical self.direction in turn t (S.picture store.new) ≡ painted (edges self.plane (left * side self.plane) (right * side self.plane) self.number (self.number + 1)) (deblocked_at (quantizer_at marks.entry.cells.now marks.entry.columns t) (turn t (S.picture store.old)).sample) (turn t (S.picture store.old)) }
     {
         for along in left..right {
             let mark = self.mark(marks, along);
-            self.smooth_marked(store, along, mark);
+            self.filter_marked(store, along, mark);
         }
     }
 }
@@ -220,14 +220,14 @@ fn first_inside(plane: u8, macroblock: u16) -> usize
 }
 
 // Filters the edges of one plane inside a segment, which is given by along and over.
-fn smooth_plane<S: Store>(
+fn filter_plane<S: Store>(
     store: &mut S,
     marks: Marks,
     plane: u8,
     direction: Direction,
     segment: Segment,
 )
-    ensures { let t = is_vertical direction in turn t (S.picture store.new) ≡ painted (λ q u v. (plane == q) && edges_in segment q u v) (smoothed (quantizer_at marks.entry.cells.now marks.entry.columns t) (turn t (S.picture store.old)).sample) (turn t (S.picture store.old)) }
+    ensures { let t = is_vertical direction in turn t (S.picture store.new) ≡ painted (λ q u v. (plane == q) && edges_in segment q u v) (deblocked_at (quantizer_at marks.entry.cells.now marks.entry.columns t) (turn t (S.picture store.old)).sample) (turn t (S.picture store.old)) }
 {
     for number in first_inside(plane, segment.top)..border_of(plane, segment.bottom) {
         let edge = Edge {
@@ -235,12 +235,12 @@ fn smooth_plane<S: Store>(
             direction,
             number,
         };
-        edge.smooth(store, marks, segment.left, segment.right);
+        edge.filter_along(store, marks, segment.left, segment.right);
     }
 }
 
 // Filters the edges of one direction inside a segment, in all planes.
-fn smooth_edges<S: Store>(
+fn filter_edges<S: Store>(
     store: &mut S,
     cells: &[Option<u8>],
     direction: Direction,
@@ -252,23 +252,16 @@ fn smooth_edges<S: Store>(
     let marks = Marks { cells, columns };
     let inner = direction.turn_segment(segment);
     for plane in 0..3 {
-        smooth_plane(store, marks, plane, direction, inner);
+        filter_plane(store, marks, plane, direction, inner);
     }
 }
 
-// The horizontal edges first, then in the result the vertical ones.
-fn smooth_segment<S: Store>(store: &mut S, marks: &[Option<u8>], segment: Segment)
-    ensures { S.picture store.new ≡ filtered marks.now segment (S.picture store.old) }
-{
-    smooth_edges(store, marks, Direction::Horizontal, segment);
-    smooth_edges(store, marks, Direction::Vertical, segment);
-}
-
-// Filters the edges inside a segment by the marks of its macroblocks: the quantizers of those that were coded. The table has a cell for each
-// macroblock of the picture, by rows.
+// Filters the edges inside a segment by the marks of its macroblocks, the quantizers of those that were coded: the horizontal edges first, then in the result
+// the vertical ones. The table has a cell for each macroblock of the picture, by rows.
 pub fn deblock_segment<S: Store>(store: &mut S, marks: &[Option<u8>], segment: Segment)
     ensures after { S.picture store.new ≡ filtered marks.now segment (S.picture store.old) }
     ensures local { Local segment }
 {
-    smooth_segment(store, marks, segment);
+    filter_edges(store, marks, Direction::Horizontal, segment);
+    filter_edges(store, marks, Direction::Vertical, segment);
 }

@@ -8,7 +8,7 @@ use crate::Direction;
 use samples::FourRows;
 
 // A row of a square.
-fn row_of(square: &[u8; 64], row: usize) -> [u8; 8]
+fn square_row(square: &[u8; 64], row: usize) -> [u8; 8]
     requires { row < 8 }
     ensures { (i : ℕ) → i < 8 → slice_index result i ≡ slice_index square.now (8 * row + i) }
 {
@@ -18,7 +18,7 @@ fn row_of(square: &[u8; 64], row: usize) -> [u8; 8]
 }
 
 // A column of a square.
-fn column_of(square: &[u8; 64], column: usize) -> [u8; 8]
+fn square_column(square: &[u8; 64], column: usize) -> [u8; 8]
     requires { column < 8 }
     ensures { (i : ℕ) → i < 8 → slice_index result i ≡ slice_index square.now (8 * i + column) }
 {
@@ -54,16 +54,16 @@ impl Direction {
     {
         match self {
             Direction::Horizontal => FourRows {
-                a: row_of(square, 2),
-                b: row_of(square, 3),
-                c: row_of(square, 4),
-                d: row_of(square, 5),
+                a: square_row(square, 2),
+                b: square_row(square, 3),
+                c: square_row(square, 4),
+                d: square_row(square, 5),
             },
             Direction::Vertical => FourRows {
-                a: column_of(square, 2),
-                b: column_of(square, 3),
-                c: column_of(square, 4),
-                d: column_of(square, 5),
+                a: square_column(square, 2),
+                b: square_column(square, 3),
+                c: square_column(square, 4),
+                d: square_column(square, 5),
             },
         }
     }

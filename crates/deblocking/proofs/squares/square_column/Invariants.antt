@@ -1,5 +1,5 @@
 use Rattle.std.proofs.Common.{◌≡◌, ℕ, ◌+◌, ◌*◌, ◌<◌, length, get_or}
-use Rattle.deblocking.proofs.squares.column_of.Given as goal
+use Rattle.deblocking.proofs.squares.square_column.Given as goal
 
 -- the places before this one are read
 abbrev pub invariant-loop-i : goal.invariant-loop-i

@@ -2,8 +2,8 @@ use Rattle.std.proofs.Common.{◌≡◌, ℕ, ◌+◌, ◌*◌, ◌/◌, ◌<◌
 use Rattle.pictures.specs.Pictures.{side}
 use Rattle.pictures.proofs.Painting.{none, alike}
 use Rattle.deblocking.specs.Edges.{edge, edge_mark, edges, quantizer_at, is_vertical, turn}
-use Rattle.deblocking.proofs.Edges.{then_smoothed, none_along, more_along, apart_along, until_along, says, by_side}
-use Rattle.deblocking.proofs.Edge.smooth.Goals as goal
+use Rattle.deblocking.proofs.Edges.{then_deblocked, none_along, more_along, apart_along, until_along, says, by_side}
+use Rattle.deblocking.proofs.Edge.filter_along.Goals as goal
 
 -- macroblocks and the samples along them
 up : (p a b : ℕ) → a ≤ b → a * side p ≤ b * side p
@@ -26,9 +26,9 @@ loop-along-preserved g c =
     let n = c.args.self.number in
     let x = c.loop-along.along in
     let k = quantizer_at c.args.marks.cells.now c.args.marks.columns t in (
-      then_smoothed (edges p low (x * side p) n (n + 1)) (edges p (x * side p) ((x + 1) * side p) n (n + 1)) _ k (λ _ _ _. c.mark-mark.result)
+      then_deblocked (edges p low (x * side p) n (n + 1)) (edges p (x * side p) ((x + 1) * side p) n (n + 1)) _ k (λ _ _ _. c.mark-mark.result)
           (turn t (g.S.Store.picture c.args.store.now)) (turn t (g.S.Store.picture c.loop-along.store)) _
-          c.loop-along.invariant.0 c.smooth_marked.ensures
+          c.loop-along.invariant.0 c.filter_marked.ensures
           (λ q u v. more_along p low (x * side p) ((x + 1) * side p) n (n + 1) q u v (up p _ _ c.loop-along.auto.along) (up p x (x + 1) (omega arith)))
           (λ q u v j e m. apart_along p low (x * side p) ((x + 1) * side p) n q u v j e m)
           (λ q u v e. let w = says p (x * side p) ((x + 1) * side p) n q u v e in

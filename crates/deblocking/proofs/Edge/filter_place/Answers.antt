@@ -2,7 +2,7 @@ use Rattle.std.proofs.Common.{◌≡◌, ap, ◌∙◌, arith}
 use Rattle.samples.specs.Deblocking.{deblocked, strength_of}
 use Rattle.deblocking.specs.Edges.{first, four_from, is_vertical, turn}
 use Rattle.deblocking.proofs.Edges.{four_writings, turned_write}
-use Rattle.deblocking.proofs.Edge.smooth_place.Goals as goal
+use Rattle.deblocking.proofs.Edge.filter_place.Goals as goal
 
 pub returns : goal.returns
 returns g c =
