@@ -4,10 +4,10 @@ use mathlib.Core.Bool.{and_comm}
 use Rattle.std.proofs.lemmas.Bool.{and_right, cases_eq, cond-false, ne_eqb}
 use Rattle.std.proofs.lemmas.Bool.Decides.{nat_tests}
 use Rattle.samples.specs.Deblocking.{deblocked, strength_of}
-use Rattle.pictures.specs.Pictures.{Picture, has, here, inside, painted, side, written}
+use Rattle.pictures.specs.Pictures.{Picture, has, inside, painted, side}
 use Rattle.pictures.specs.declared.layouts.Segment.{Segment}
-use Rattle.pictures.proofs.Painting.{same_picture, none, step}
-use Rattle.deblocking.specs.Edges.{turn, across_of, down_of, edge, role, first, four_from, of_role, deblocked_at, border, edges, edges_in}
+use Rattle.pictures.proofs.Painting.{same_picture}
+use Rattle.deblocking.specs.Edges.{turn, edge, role, first, four_from, of_role, deblocked_at, border, edges, edges_in}
 
 -- what holds with 16 samples to a macroblock and with 8 holds in each plane
 pub by_side : (P : ℕ → Type 0) (p : ℕ) → P 16 → P 8 → P (side p)
@@ -21,20 +21,6 @@ by_side P p a b = at (eqb p 0)
 pub turned_inside : (w h p x y : ℕ) → inside w h p x y ≡ inside h w p y x
 unfolding inside
 turned_inside w h p x y = ap (λ b. ltb p 3 && b) (and_comm (ltb x (w * side p)) (ltb y (h * side p)))
-
-turned_here : (p x y q u v : ℕ) → here p x y q u v ≡ here p y x q v u
-unfolding here
-turned_here p x y q u v = ap (λ b. eqb p q && b) (and_comm (eqb x u) (eqb y v))
-
--- a writing turned is a writing in the picture turned
-turned_writes : (t : Bool) (f : Picture) (p along over value : ℕ) → turn t (written f p (across_of t along over) (down_of t along over) value) ≡ written (turn t f) p along over value
-turned_writes true f p along over value =
-    same_picture _ _ refl refl (λ q u v. ap (λ b. cond (b && here p over along q v u) value (f.sample q v u)) (turned_inside f.wide f.high q v u)
-    ∙ ap (λ b. cond (inside f.high f.wide q u v && b) value (f.sample q v u)) (turned_here p over along q v u))
-turned_writes false f p along over value = refl
-
-pub turned_write : (t : Bool) (f f₁ : Picture) (p along over value : ℕ) → f₁ ≡ written f p (across_of t along over) (down_of t along over) value → turn t f₁ ≡ written (turn t f) p along over value
-turned_write t f f₁ p along over value wrote = ap (turn t) wrote ∙ turned_writes t f p along over value
 
 pub turned_twice : (t : Bool) (f : Picture) → turn t (turn t f) ≡ f
 turned_twice true f = refl
@@ -79,12 +65,7 @@ then_deblocked done₁ done₂ done k k₂ f f₁ f₂ was now joins apart says 
     at q u v true e false d = simp (e, d, joins q u v)
     at q u v false e d i = simp e
 
--- the four places at one place along an edge
-place_is : (p x n q u v : ℕ) → 1 ≤ n
-    → edges p x (x + 1) n (n + 1) q u v ≡ (here p x (first n + 3) q u v || (here p x (first n + 2) q u v || (here p x (first n + 1) q u v || (here p x (first n) q u v || false))))
-unfolding edges here
-place_is p x n q u v l = grind (arith, nat_tests)
-
+-- sample j of the four that the filter makes at place x along edge n
 abbrev pub tap : ℕ → Picture → ℕ → ℕ → ℕ → ℕ → ℕ
 tap quantizer f p x n j = of_role j (deblocked (strength_of quantizer) (four_from f.sample p x (first n)))
 
@@ -94,27 +75,6 @@ deblocked_tap quantizer f p x n j l m =
     let e : edge (first n + j) ≡ n = omega arith in
     let r : role (first n + j) ≡ j = omega arith in
     rw (e, r)
-
-deblocked_first : (quantizer : ℕ) (f : Picture) (p x n : ℕ) → 1 ≤ n → deblocked_at (λ _ _ _. Some quantizer) f.sample p x (first n) ≡ tap quantizer f p x n 0
-deblocked_first quantizer f p x n l =
-    let z : first n ≡ first n + 0 = omega arith in
-    ap (deblocked_at (λ _ _ _. Some quantizer) f.sample p x) z ∙ deblocked_tap quantizer f p x n 0 l (omega arith)
-
--- four writings filter an edge at one place along it
-pub four_writings : (quantizer : ℕ) (f f₁ f₂ f₃ f₄ : Picture) (p x n a b c d : ℕ) → 1 ≤ n
-    → a ≡ tap quantizer f p x n 0 → b ≡ tap quantizer f p x n 1 → c ≡ tap quantizer f p x n 2 → d ≡ tap quantizer f p x n 3
-    → f₁ ≡ written f p x (first n) a → f₂ ≡ written f₁ p x (first n + 1) b → f₃ ≡ written f₂ p x (first n + 2) c → f₄ ≡ written f₃ p x (first n + 3) d
-    → f₄ ≡ painted (edges p x (x + 1) n (n + 1)) (deblocked_at (λ _ _ _. Some quantizer) f.sample) f
-four_writings quantizer f f₁ f₂ f₃ f₄ p x n a b c d l is-a is_b is_c is-d w₁ w₂ w₃ w₄ =
-    let new = deblocked_at (λ _ _ _. Some quantizer) f.sample in
-    let g₁ = step (λ q u v. false) (λ q u v. here p x (first n) q u v || false) new f f f₁ p x (first n) a (none _ new f (λ q u v. refl)) w₁
-    (is-a ∙ sym (deblocked_first quantizer f p x n l)) (λ q u v. refl) in
-    let g₂ = step _ (λ q u v. here p x (first n + 1) q u v || (here p x (first n) q u v || false)) new f f₁ f₂ p x (first n + 1) b g₁ w₂
-    (is_b ∙ sym (deblocked_tap quantizer f p x n 1 l (omega arith))) (λ q u v. refl) in
-    let g₃ = step _ (λ q u v. here p x (first n + 2) q u v || (here p x (first n + 1) q u v || (here p x (first n) q u v || false))) new f f₂ f₃ p x (first n + 2) c g₂ w₃
-    (is_c ∙ sym (deblocked_tap quantizer f p x n 2 l (omega arith))) (λ q u v. refl) in
-    step (λ q u v. here p x (first n + 2) q u v || (here p x (first n + 1) q u v || (here p x (first n) q u v || false))) (edges p x (x + 1) n (n + 1)) new f f₃ f₄ p x (first n + 3) d g₃ w₄
-    (is-d ∙ sym (deblocked_tap quantizer f p x n 3 l (omega arith))) (λ q u v. place_is p x n q u v l)
 
 -- parts of edges: none yet, one more along an edge, one edge more
 pub none_along : (p low from to q u v : ℕ) → edges p low low from to q u v ≡ false

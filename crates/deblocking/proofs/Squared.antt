@@ -79,11 +79,11 @@ of_four t values i (suc (suc (suc (suc (suc zero))))) e = refl
 of_four t values i (suc (suc (suc (suc (suc (suc j)))))) e = absurd (omega (arith, few (suc (suc (suc (suc (suc (suc j)))))) e))
 
 -- a square in which those samples are filtered and the others stay
-abbrev Filtered : ℕ → Picture → ℕ → ℕ → ℕ → (ℕ → ℕ → ℕ) → Type 0
-Filtered quantizer f p x n new =
+abbrev FilteredSquare : ℕ → Picture → ℕ → ℕ → ℕ → (ℕ → ℕ → ℕ) → Type 0
+FilteredSquare quantizer f p x n new =
     (i j : ℕ) → i < 8 → j < 8 → new i j ≡ cond (next_to j) (tap quantizer f p (x + i) n (j - 2)) (f.sample p (x + i) (corner n + j))
 
-square_filtered : (quantizer : ℕ) (f : Picture) (p x n : ℕ) (new : ℕ → ℕ → ℕ) → 1 ≤ n → Filtered quantizer f p x n new
+square_filtered : (quantizer : ℕ) (f : Picture) (p x n : ℕ) (new : ℕ → ℕ → ℕ) → 1 ≤ n → FilteredSquare quantizer f p x n new
     → painted (square_at p x (corner n)) (λ _ u v. new (u - x) (v - corner n)) f ≡ painted (edges p x (x + 8) n (n + 1)) (deblocked_at (λ _ _ _. Some quantizer) f.sample) f
 square_filtered quantizer f p x n new l is =
     same_picture _ _ refl refl (λ q u v. at q u v (has f q u v) refl (square_at p x (corner n) q u v) refl (next_to (v - corner n)) refl)

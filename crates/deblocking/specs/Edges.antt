@@ -85,6 +85,20 @@ unfoldable pub edges_in : Segment → ℕ → ℕ → ℕ → Bool
 edges_in s q u v =
     (nat_le (s.left * side q) u && nat_lt u (s.right * side q)) && (nat_lt (role v) 4 && (nat_lt (s.top * side q) (edge v * 8) && nat_lt (edge v * 8) (s.bottom * side q)))
 
+-- the places of edge n of plane p between the macroblocks from left to before right along it
+abbrev pub edge_along : ℕ → ℕ → ℕ → ℕ → ℕ → ℕ → ℕ → Bool
+edge_along p n left right = edges p (left * side p) (right * side p) n (n + 1)
+
+-- the picture after is the one before with these places at the edges of a direction deblocked, each by its quantizer; places and quantizers are told by along
+-- and over the edges
+abbrev pub FilteredAt : Direction → (ℕ → ℕ → ℕ → Bool) → (ℕ → ℕ → ℕ → Option ℕ) → Picture → Picture → Type 0
+FilteredAt direction places quantizers before after =
+    let t = is_vertical direction in turn t after ≡ painted places (deblocked_at quantizers (turn t before).sample) (turn t before)
+
+-- the same, where the quantizers are those that a table of marks has
+abbrev pub FilteredByMarks : Direction → (ℕ → ℕ → ℕ → Bool) → List (Option ℕ) → ℕ → Picture → Picture → Type 0
+FilteredByMarks direction places marks columns before after = FilteredAt direction places (quantizer_at marks columns (is_vertical direction)) before after
+
 -- the picture with a segment's horizontal edges filtered, or, turned, with its vertical ones
 abbrev pub filtered_over : Bool → List (Option ℕ) → Segment → Picture → Picture
 filtered_over turned marks s f =

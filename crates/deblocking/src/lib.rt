@@ -3,13 +3,13 @@
 #![tactic(auto)]
 
 ghost use Rattle.std.specs.Prelude.{◌≡◌, ◌+◌, ◌*◌, ◌/◌, ◌≤◌, ◌&&◌, max, Some, ◌==◌};
-ghost use Rattle.pictures.specs.Pictures.{painted, side, written};
-ghost use Rattle.deblocking.specs.Edges.{Local, across_of, border, down_of, edge_mark, edges, edges_in, filtered, filtered_over, is_vertical, mark_at, quantizer_at, deblocked_at, turn, turn_segment};
+ghost use Rattle.pictures.specs.Pictures.{side};
+ghost use Rattle.deblocking.specs.Edges.{FilteredAt, FilteredByMarks, Local, across_of, border, down_of, edge_along, edge_mark, edges, edges_in, filtered, filtered_over, is_vertical, mark_at, turn_segment};
 
 mod squares;
 
 use pictures::{Segment, Store, side_of};
-use samples::{Four, deblock, deblock_rows};
+use samples::deblock_rows;
 use squares::is_same;
 
 // Which way an edge runs.
@@ -78,21 +78,6 @@ struct Edge {
 }
 
 impl Edge {
-    // The sample at a place along and over the edge.
-    fn sample_at<S: Store>(self, store: &S, along: usize, over: usize) -> u8
-        ensures { result ≡ (turn (is_vertical self.direction) (S.picture store.now)).sample self.plane along over }
-    {
-        let (across, down) = self.direction.place(along, over);
-        store.sample(self.plane, across, down)
-    }
-
-    fn write_at<S: Store>(self, store: &mut S, along: usize, over: usize, value: u8)
-        ensures { S.picture store.new ≡ written (S.picture store.old) self.plane (across_of (is_vertical self.direction) along over) (down_of (is_vertical self.direction) along over) value }
-    {
-        let (across, down) = self.direction.place(along, over);
-        store.write(self.plane, across, down, value);
-    }
-
     // The mark of the macroblock of this number along the edge that a coordinate over it lies in.
     fn mark_at(self, marks: Marks, along: u16, over: usize) -> Option<u8>
         requires { over ≤ 2000000 }
@@ -114,30 +99,11 @@ impl Edge {
         }
     }
 
-    // Filters the edge at one place along it.
-    fn filter_place<S: Store>(self, store: &mut S, along: usize, quantizer: u8)
-        ensures { let t = is_vertical self.direction in turn t (S.picture store.new) ≡ painted (edges self.plane along (along + 1) self.number (self.number + 1)) (deblocked_at (λ _ _ _. Some quantizer) (turn t (S.picture store.old)).sample) (turn t (S.picture store.old)) }
-    {
-        let first = self.number * 8 - 2;
-        let four = Four {
-            a: self.sample_at(store, along, first),
-            b: self.sample_at(store, along, first + 1),
-            c: self.sample_at(store, along, first + 2),
-            d: self.sample_at(store, along, first + 3),
-        };
-        let new = deblock(quantizer, four);
-        self.write_at(store, along, first, new.a);
-        self.write_at(store, along, first + 1, new.b);
-        self.write_at(store, along, first + 2, new.c);
-        self.write_at(store, along, first + 3, new.d);
-    }
-
     // Filters the edge at eight places along it, whose samples lie in a square that has the edge in its middle. (Where all of them stay, as they often do,
     // none is written.)
     fn filter_square<S: Store>(self, store: &mut S, along: usize, quantizer: u8)
-        requires along { along ≤ 65535 }
-        requires over { self.number * 8 ≤ 65535 }
-        ensures { let t = is_vertical self.direction in turn t (S.picture store.new) ≡ painted (edges self.plane along (along + 8) self.number (self.number + 1)) (deblocked_at (λ _ _ _. Some quantizer) (turn t (S.picture store.old)).sample) (turn t (S.picture store.old)) }
+        requires { along ≤ 2000000 }
+        ensures { FilteredAt self.direction (edges self.plane along (along + 8) self.number (self.number + 1)) (λ _ _ _. Some quantizer) (S.picture store.old) (S.picture store.new) }
     {
         let (across, down) = self.direction.place(along, self.number * 8 - 4);
         let mut square = store.read_square(self.plane, across, down);
@@ -152,41 +118,26 @@ impl Edge {
 
     // Filters the edge from here along, so many times eight places.
     fn filter_squares<S: Store>(self, store: &mut S, from: usize, count: usize, quantizer: u8)
-        requires along { from + 8 * count ≤ 65535 }
-        requires over { self.number * 8 ≤ 65535 }
-        ensures { let t = is_vertical self.direction in turn t (S.picture store.new) ≡ painted (edges self.plane from (from + 8 * count) self.number (self.number + 1)) (deblocked_at (λ _ _ _. Some quantizer) (turn t (S.picture store.old)).sample) (turn t (S.picture store.old)) }
+        requires { from + 8 * count ≤ 2000000 }
+        ensures { FilteredAt self.direction (edges self.plane from (from + 8 * count) self.number (self.number + 1)) (λ _ _ _. Some quantizer) (S.picture store.old) (S.picture store.new) }
     {
         for square in 0..count {
             self.filter_square(store, from + 8 * square, quantizer);
         }
     }
 
-    // Filters the edge between two macroblocks of this number along it, place by place.
-    fn filter_places<S: Store>(self, store: &mut S, along: u16, quantizer: u8)
-        ensures { let t = is_vertical self.direction in turn t (S.picture store.new) ≡ painted (edges self.plane (along * side self.plane) ((along + 1) * side self.plane) self.number (self.number + 1)) (deblocked_at (λ _ _ _. Some quantizer) (turn t (S.picture store.old)).sample) (turn t (S.picture store.old)) }
-    {
-        let width = side_of(self.plane);
-        for place in along as usize * width..(along as usize + 1) * width {
-            self.filter_place(store, place, quantizer);
-        }
-    }
-
-    // Filters the edge between two macroblocks of this number along it. (No picture is so large that the bounds are passed, but an edge does not know it.)
+    // Filters the edge between two macroblocks of this number along it.
     fn filter_pair<S: Store>(self, store: &mut S, along: u16, quantizer: u8)
-        ensures { let t = is_vertical self.direction in turn t (S.picture store.new) ≡ painted (edges self.plane (along * side self.plane) ((along + 1) * side self.plane) self.number (self.number + 1)) (deblocked_at (λ _ _ _. Some quantizer) (turn t (S.picture store.old)).sample) (turn t (S.picture store.old)) }
+        ensures { FilteredAt self.direction (edge_along self.plane self.number along (along + 1)) (λ _ _ _. Some quantizer) (S.picture store.old) (S.picture store.new) }
     {
         let width = side_of(self.plane);
         let from = along as usize * width;
-        if from + width <= 65535 && self.number * 8 <= 65535 {
-            self.filter_squares(store, from, width / 8, quantizer);
-        } else {
-            self.filter_places(store, along, quantizer);
-        }
+        self.filter_squares(store, from, width / 8, quantizer);
     }
 
     // The same where there is a mark, and nothing where there is none.
     fn filter_marked<S: Store>(self, store: &mut S, along: u16, mark: Option<u8>)
-        ensures { let t = is_vertical self.direction in turn t (S.picture store.new) ≡ painted (edges self.plane (along * side self.plane) ((along + 1) * side self.plane) self.number (self.number + 1)) (deblocked_at (λ _ _ _. mark) (turn t (S.picture store.old)).sample) (turn t (S.picture store.old)) }
+        ensures { FilteredAt self.direction (edge_along self.plane self.number along (along + 1)) (λ _ _ _. mark) (S.picture store.old) (S.picture store.new) }
     {
         if let Some(quantizer) = mark {
             self.filter_pair(store, along, quantizer);
@@ -195,7 +146,7 @@ impl Edge {
 
     // Filters the edge between the macroblocks from left to before right along it, by the mark of each pair of them.
     fn filter_along<S: Store>(self, store: &mut S, marks: Marks, left: u16, right: u16)
-        ensures { let t = is_vertical self.direction in turn t (S.picture store.new) ≡ painted (edges self.plane (left * side self.plane) (right * side self.plane) self.number (self.number + 1)) (deblocked_at (quantizer_at marks.entry.cells.now marks.entry.columns t) (turn t (S.picture store.old)).sample) (turn t (S.picture store.old)) }
+        ensures { FilteredByMarks self.direction (edge_along self.plane self.number left right) marks.entry.cells.now marks.entry.columns (S.picture store.old) (S.picture store.new) }
     {
         for along in left..right {
             let mark = self.mark(marks, along);
@@ -227,7 +178,7 @@ fn filter_plane<S: Store>(
     direction: Direction,
     segment: Segment,
 )
-    ensures { let t = is_vertical direction in turn t (S.picture store.new) ≡ painted (λ q u v. (plane == q) && edges_in segment q u v) (deblocked_at (quantizer_at marks.entry.cells.now marks.entry.columns t) (turn t (S.picture store.old)).sample) (turn t (S.picture store.old)) }
+    ensures { FilteredByMarks direction (λ q u v. (plane == q) && edges_in segment q u v) marks.entry.cells.now marks.entry.columns (S.picture store.old) (S.picture store.new) }
 {
     for number in first_inside(plane, segment.top)..border_of(plane, segment.bottom) {
         let edge = Edge {

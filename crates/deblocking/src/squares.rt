@@ -1,8 +1,8 @@
 // Squares of 8 by 8 samples, by rows, that have an edge in their middle: of what lies across it the four samples next to it.
 ghost use Rattle.std.specs.Prelude.{◌≡◌, ℕ, ◌+◌, ◌-◌, ◌*◌, ◌/◌, ◌%◌, ◌<◌, ◌≤◌, ◌&&◌, if◌then◌else◌, nat_eq, nat_le, nat_lt, slice_index, Decides};
 ghost use Rattle.samples.specs.Deblocking.{four_at};
-ghost use Rattle.deblocking.specs.Edges.{is_vertical, of_role};
-ghost use Rattle.deblocking.specs.Squares.{four_across, kept_at};
+ghost use Rattle.deblocking.specs.Edges.{is_vertical};
+ghost use Rattle.deblocking.specs.Squares.{MiddleSet, four_across};
 
 use crate::Direction;
 use samples::FourRows;
@@ -70,7 +70,7 @@ impl Direction {
 
     // Sets the four samples at each of the eight places along the edge.
     pub(crate) fn set_middle(self, square: &mut [u8; 64], rows: &FourRows)
-        ensures { let t = is_vertical self in (i j : ℕ) → i < 8 → j < 8 → slice_index square.new (kept_at t i j) ≡ (if nat_le 2 j && nat_lt j 6 then of_role (j - 2) (four_at rows.now i) else slice_index square.old (kept_at t i j)) }
+        ensures { MiddleSet (is_vertical self) rows.now square.old square.new }
     {
         match self {
             Direction::Horizontal => {

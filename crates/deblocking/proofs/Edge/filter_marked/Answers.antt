@@ -1,19 +1,17 @@
-use Rattle.std.proofs.Common.{◌≡◌, ◌+◌, ◌*◌, Bool, true, false, cond, ◌&&◌, refl}
-use Rattle.pictures.specs.Pictures.{has, side}
+use Rattle.std.proofs.Common.{◌≡◌, ℕ, Bool, true, false, cond, ◌&&◌, None, Option, refl}
+use Rattle.pictures.specs.Pictures.{Picture, has, painted}
 use Rattle.pictures.proofs.Painting.{same_picture}
-use Rattle.deblocking.specs.Edges.{edges, deblocked_at, is_vertical, turn}
+use Rattle.deblocking.specs.Edges.{deblocked_at}
 use Rattle.deblocking.proofs.Edge.filter_marked.Goals as goal
 
 same : {X : Type 0} (b : Bool) (x : X) → x ≡ cond b x x
 same true x = refl
 same false x = refl
 
-pub returns-in_default : goal.returns-in_default
+-- where there is no mark, every place keeps its sample
+unmarked : (places : ℕ → ℕ → ℕ → Bool) (mark : Option ℕ) (f : Picture) → mark ≡ None → f ≡ painted places (deblocked_at (λ _ _ _. mark) f.sample) f
 unfolding deblocked_at
-returns-in_default g c =
-    let e = c.args.self in
-    let f = turn (is_vertical e.direction) (g.S.Store.picture c.args.store.now) in
-    let low = c.args.along * side e.plane in
-    let high = (c.args.along + 1) * side e.plane in
-    same_picture _ _ refl refl
-    (λ q u v. simp c.in_default.is (same (has f q u v && edges e.plane low high e.number (e.number + 1) q u v) (f.sample q u v)))
+unmarked places mark f e = same_picture _ _ refl refl (λ q u v. simp e (same (has f q u v && places q u v) (f.sample q u v)))
+
+pub returns-in_default : goal.returns-in_default
+returns-in_default g c = unmarked _ _ _ c.in_default.is

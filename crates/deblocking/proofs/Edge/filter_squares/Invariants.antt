@@ -1,11 +1,8 @@
-use Rattle.std.proofs.Common.{◌≡◌, ◌+◌, ◌*◌, Some}
-use Rattle.pictures.specs.Pictures.{painted}
-use Rattle.deblocking.specs.Edges.{edges, is_vertical, deblocked_at, turn}
+use Rattle.std.proofs.Common.{◌+◌, ◌*◌, Some}
+use Rattle.deblocking.specs.Edges.{FilteredAt, edges}
 use Rattle.deblocking.proofs.Edge.filter_squares.Given as goal
 
 -- the squares before this one are filtered
 abbrev pub invariant-loop-square : goal.invariant-loop-square
 invariant-loop-square g l =
-    let t = is_vertical l.self.direction in
-    turn t (g.S.Store.picture l.store)
-    ≡ painted (edges l.self.plane l.from (l.from + 8 * l.square) l.self.number (l.self.number + 1)) (deblocked_at (λ _ _ _. Some l.quantizer) (turn t (g.S.Store.picture l.initial.store)).sample) (turn t (g.S.Store.picture l.initial.store))
+    FilteredAt l.self.direction (edges l.self.plane l.from (l.from + 8 * l.square) l.self.number (l.self.number + 1)) (λ _ _ _. Some l.quantizer) (g.S.Store.picture l.initial.store) (g.S.Store.picture l.store)
