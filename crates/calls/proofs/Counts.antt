@@ -9,7 +9,7 @@ use Rattle.samples.specs.declared.prediction.Rounding.{Rounding}
 use Rattle.samples.specs.Ages.{next_age, older}
 use Rattle.pictures.specs.declared.formats.Format.{Format}
 use Rattle.pictures.specs.Segments.{has_bit, segment_count, segment_of_row}
-use Rattle.rebuild.proofs.Cells.{accepted_is}
+use Rattle.rebuild.proofs.Cells.{delivery_records_are}
 use Rattle.calls.specs.declared.answers.Answer.TheVariants.{Opened, Closed, Age}
 use Rattle.calls.specs.declared.faults.PictureFault.{PictureFault}
 use Rattle.calls.specs.Held.{Held}
@@ -192,7 +192,7 @@ module _ (w : Setting) where
           → cond (eqb (segment_of_row b.layout r) segment)
           (coded_intra format b.layout segment (delivered_records format b.coding.kind b.layout segment bytes) c r) (b.coding.intra c r)
           ≡ cond (own r) (coded c r) (b.coding.intra c r)
-      same c r = rw (o.kind_is, o.layout_is, accepted_is k _ bytes ms was.was_read) refl
+      same c r = rw (o.kind_is, o.layout_is, delivery_records_are k _ bytes ms was.was_read) refl
 
   based_ages : (f : Option ℕ) (k : PictureKind) (l : ℕ) (M : Contents) (b : Book) → Based k f l → ClosedAges format f M b
       → (c r : ℕ) → in_grid format c r ≡ true → k ≡ picture.Inter → age_at format M.held.finished_ages c r ≡ age_after (since c r b.closed_ones)

@@ -9,7 +9,7 @@ use Rattle.pictures.specs.declared.formats.Format.{Format}
 use Rattle.pictures.specs.Formats.{columns_of, rows_of}
 use Rattle.pictures.specs.Pictures.{inside, side}
 use Rattle.pictures.specs.Segments.{first_row, has_bit, segment_of_row}
-use Rattle.rebuild.specs.Rebuilt.{accepted as records_of}
+use Rattle.rebuild.specs.Rebuilt.{delivery_records}
 use Rattle.calls.specs.declared.answers.Answer.{Answer}
 use Rattle.calls.specs.declared.answers.Answer.TheVariants.{Opened, Delivered, Closed, Sample, Age, Refused, OutOfTurn}
 use Rattle.calls.specs.declared.faults.PictureFault.TheVariants as fault
@@ -142,7 +142,7 @@ coded_intra format layout segment records column row = intra_at records ((row - 
 
 -- the records in the bytes of an accepted delivery
 abbrev pub delivered_records : Format → PictureKind → ℕ → ℕ → List ℕ → List Macroblock
-delivered_records format kind layout segment bytes = records_of kind (macroblocks_in format layout segment) bytes
+delivered_records format kind layout segment bytes = delivery_records kind (macroblocks_in format layout segment) bytes
 
 -- what an accepted call adds
 abbrev pub noted : Format → Book → Calling → Book

@@ -10,13 +10,13 @@ use Rattle.motion.specs.declared.vectors.Vector.{Vector}
 use Rattle.motion.specs.Vectors.{zero_vector}
 use Rattle.pictures.specs.declared.layouts.Segment.{Segment}
 use Rattle.pictures.specs.Pictures.{covers, side}
-use Rattle.rebuild.specs.Rebuilt.{accepted, count_of, set_from}
+use Rattle.rebuild.specs.Rebuilt.{count_of, delivery_records, set_from}
 use Rattle.rebuild.specs.Segments.{cell_at, samples_by}
 
--- an accepted delivery has its records
-pub accepted_is : (kind : PictureKind) (n : ℕ) (bytes : List ℕ) (records : List Macroblock) → read kind n bytes ≡ Ok records → accepted kind n bytes ≡ records
-unfolding accepted
-accepted_is kind n bytes records e = rw e
+-- the records of a delivery that is accepted are those that are read
+pub delivery_records_are : (kind : PictureKind) (n : ℕ) (bytes : List ℕ) (records : List Macroblock) → read kind n bytes ≡ Ok records → delivery_records kind n bytes ≡ records
+unfolding delivery_records
+delivery_records_are kind n bytes records e = rw e
 
 -- the rows above a segment, and its own
 pub rows_join : (top bottom columns : ℕ) → top ≤ bottom → top * columns + (bottom - top) * columns ≡ bottom * columns

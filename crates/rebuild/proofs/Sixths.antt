@@ -8,7 +8,7 @@ use Rattle.std.proofs.lemmas.Bool.Decides.{nat_tests}
 use Rattle.pictures.specs.Pictures.{Picture, covers, has, inside, painted}
 use Rattle.pictures.proofs.Painting.{same_picture}
 use Rattle.rebuild.specs.Blocks.{block_at, summed}
-use Rattle.rebuild.specs.Macroblocks.{block_of, left_in, macroblock_at, coded_sample, macroblock_sample, plane_of, residual_of, segment_of, source_for, top_in}
+use Rattle.rebuild.specs.Macroblocks.{block_of, left_in, macroblock_at, coded_sample, macroblock_sample, plane_of, residual_of, segment_of_one, source_for, top_in}
 
 -- the places of a macroblock in its blocks before block b
 unfoldable pub macroblock_up_to : ℕ → ℕ → ℕ → ℕ → ℕ → ℕ → Bool
@@ -91,7 +91,7 @@ unfolding summed coded_sample
 block_samples meaning s rounding picture m vector source residual p b q u v e f g h = rw (g, ← h, e, f) refl
 
 -- a macroblock is a rectangle of one
-pub one_covered : (column row q u v : ℕ) (f : Picture) → has f q u v ≡ true → covers (segment_of column row) q u v ≡ macroblock_at column row q u v
+pub one_covered : (column row q u v : ℕ) (f : Picture) → has f q u v ≡ true → covers (segment_of_one column row) q u v ≡ macroblock_at column row q u v
 unfolding covers macroblock_at inside
 one_covered column row zero u v f h = grind (arith, nat_tests)
 one_covered column row (suc q) u v f h = grind (arith, nat_tests)

@@ -13,8 +13,8 @@ use Rattle.transform.specs.Coefficients.{block_coefficients}
 use Rattle.rebuild.specs.Blocks.{predicted_from}
 
 -- a macroblock as a segment of one
-abbrev pub segment_of : ℕ → ℕ → Segment
-segment_of column row = record { left = column; right = column + 1; top = row; bottom = row + 1 }
+abbrev pub segment_of_one : ℕ → ℕ → Segment
+segment_of_one column row = record { left = column; right = column + 1; top = row; bottom = row + 1 }
 
 -- the places of the macroblock in a column and a row, in all planes
 unfoldable pub macroblock_at : ℕ → ℕ → ℕ → ℕ → ℕ → Bool

@@ -25,12 +25,12 @@ abbrev pub first_cell : Segment → ℕ
 first_cell s = s.top * width_of s
 
 -- the records of a delivery that is accepted
-abbrev pub records_in : {F : Type 0} → Result (List Macroblock) F → List Macroblock
-records_in (Ok records) = records
-records_in (Err f) = []
+abbrev pub records_or_none : {F : Type 0} → Result (List Macroblock) F → List Macroblock
+records_or_none (Ok records) = records
+records_or_none (Err f) = []
 
-unfoldable pub accepted : PictureKind → ℕ → List ℕ → List Macroblock
-accepted kind count bytes = records_in (read kind count bytes)
+unfoldable pub delivery_records : PictureKind → ℕ → List ℕ → List Macroblock
+delivery_records kind count bytes = records_or_none (read kind count bytes)
 
 -- a table in which the cells from a place on are set
 abbrev pub set_from : {X : Type 0} → ℕ → List X → List X → List X

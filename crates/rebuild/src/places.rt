@@ -1,6 +1,6 @@
 // Where the samples of macroblocks and blocks lie. (The bounds are those of the largest picture, and far below what a machine word holds.)
 ghost use Rattle.std.specs.Prelude.{◌≡◌, ◌%◌, ◌<◌, ◌≤◌};
-ghost use Rattle.rebuild.specs.Macroblocks.{left_in, plane_of, segment_of, top_in};
+ghost use Rattle.rebuild.specs.Macroblocks.{left_in, plane_of, segment_of_one, top_in};
 
 use pictures::Segment;
 
@@ -28,7 +28,7 @@ pub struct MacroblockPlace {
 impl MacroblockPlace {
     // The macroblock as a segment of one.
     pub(crate) fn segment(self) -> Segment
-        ensures { result ≡ segment_of self.column self.row }
+        ensures { result ≡ segment_of_one self.column self.row }
     {
         Segment {
             left: self.column,

@@ -4,8 +4,8 @@ use Rattle.records.specs.declared.types.Delivered.{Delivered}
 use Rattle.records.specs.declared.types.Macroblock.{Macroblock}
 use Rattle.records.specs.Deliveries.{delivered_of, read}
 use Rattle.pictures.specs.Segments.{segment_count}
-use Rattle.rebuild.specs.Rebuilt.{accepted}
-use Rattle.rebuild.proofs.Cells.{accepted_is}
+use Rattle.rebuild.specs.Rebuilt.{delivery_records}
+use Rattle.rebuild.proofs.Cells.{delivery_records_are}
 use Rattle.calls.specs.declared.faults.PictureFault.{PictureFault}
 use Rattle.calls.specs.Held.{Held, fits}
 use Rattle.calls.specs.Questions.{macroblocks_in}
@@ -27,14 +27,14 @@ module _ (slip : Slip) (held : Held) (segment : ℕ) (bytes : List ℕ) where
     pub fitting : fits slip.reel.format held ≡ true
     pub numbered : segment < segment_count slip.reel.format slip.layout
     pub readable : is_ok (read slip.kind (macroblocks_in slip.reel.format slip.layout segment) bytes) ≡ true
-    pub judgement : judged slip held segment bytes ≡ Ok (accepted slip.kind (macroblocks_in slip.reel.format slip.layout segment) bytes)
-    pub counts_are : counts ≡ delivered_of bytes (accepted slip.kind (macroblocks_in slip.reel.format slip.layout segment) bytes)
+    pub judgement : judged slip held segment bytes ≡ Ok (delivery_records slip.kind (macroblocks_in slip.reel.format slip.layout segment) bytes)
+    pub counts_are : counts ≡ delivered_of bytes (delivery_records slip.kind (macroblocks_in slip.reel.format slip.layout segment) bytes)
 
   pub delivery_granted : (counts : Delivered) → Ok counts ≡ delivery_answered bytes (judged slip held segment bytes) → Granted counts
   delivery_granted counts d =
       let g = granted bytes (judged slip held segment bytes) counts d in
       let t = delivery_passed (fits slip.reel.format held) slip.reel.format slip.kind slip.layout slip.accepted segment bytes g.0 g.1.0 in
-      let r : accepted slip.kind (macroblocks_in slip.reel.format slip.layout segment) bytes ≡ g.0 = accepted_is slip.kind _ bytes g.0 t.was_read in
+      let r : delivery_records slip.kind (macroblocks_in slip.reel.format slip.layout segment) bytes ≡ g.0 = delivery_records_are slip.kind _ bytes g.0 t.was_read in
       record {
         fitting = t.fits;
         numbered = t.segments;

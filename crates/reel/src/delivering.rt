@@ -3,7 +3,7 @@ ghost use Rattle.std.specs.Prelude.{◌≡◌, ℕ, ◌*◌, ◌^◌, ◌<◌, �
 ghost use Rattle.motion.specs.Cells.{Room};
 ghost use Rattle.records.specs.Deliveries.{read};
 ghost use Rattle.pictures.specs.Segments.{has_bit};
-ghost use Rattle.rebuild.specs.Rebuilt.{Spans, accepted, count_of, width_of};
+ghost use Rattle.rebuild.specs.Rebuilt.{Spans, count_of, delivery_records, width_of};
 ghost use Rattle.calls.specs.Effects.{segment_rebuilt};
 ghost use Rattle.calls.specs.Held.{fits};
 ghost use Rattle.calls.specs.Questions.{judge_delivery};
@@ -54,7 +54,7 @@ fn rebuild_in<S: Store, T: Transform>(
     requires spans { Spans segment (S.picture memory.old.working).wide }
     requires accepted { is_ok (read kind (count_of segment) bytes.now) ≡ true }
     requires room { let m = memory.old in Room (segment.bottom * width_of segment) m.finished_ages.items m.working_ages.items m.vectors.items m.marks.items }
-    ensures { held_in S.picture memory.new ≡ segment_rebuilt (T.meaning transform.now) segment rounding (accepted kind (count_of segment) bytes.now) (held_in S.picture memory.old) }
+    ensures { held_in S.picture memory.new ≡ segment_rebuilt (T.meaning transform.now) segment rounding (delivery_records kind (count_of segment) bytes.now) (held_in S.picture memory.old) }
 {
     let Memory {
         finished,

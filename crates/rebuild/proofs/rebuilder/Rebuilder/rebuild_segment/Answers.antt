@@ -7,9 +7,9 @@ use Rattle.pictures.specs.Pictures.{covers, painted}
 use Rattle.records.specs.Again.{records_of}
 use Rattle.samples.specs.Prediction.{rounding_of}
 use Rattle.deblocking.specs.Edges.{filtered}
-use Rattle.rebuild.specs.Rebuilt.{accepted, count_of, first_cell, set_from, width_of}
+use Rattle.rebuild.specs.Rebuilt.{count_of, delivery_records, first_cell, set_from, width_of}
 use Rattle.rebuild.specs.Segments.{cell_at, samples_by}
-use Rattle.rebuild.proofs.Cells.{accepted_is, cell_below, rows_join, same_vectors, set_cells_at}
+use Rattle.rebuild.proofs.Cells.{delivery_records_are, cell_below, rows_join, same_vectors, set_cells_at}
 use Rattle.rebuild.proofs.Independence.{independent}
 use Rattle.rebuild.proofs.Sixths.{agreeing}
 use Rattle.rebuild.proofs.rebuilder.Rebuilder.rebuild_segment.Goals as goal
@@ -41,9 +41,9 @@ returns g c =
     let a = c.args in
     let s = a.self.now.window.segment in
     let w = width_of s in
-    let records = accepted a.kind (count_of s) a.bytes.now in
-    let one = sym (accepted_is _ _ _ _ c.new.ensures.records) in
-    let two = sym (accepted_is _ _ _ _ c.new-2.ensures.records) in
+    let records = delivery_records a.kind (count_of s) a.bytes.now in
+    let one = sym (delivery_records_are _ _ _ _ c.new.ensures.records) in
+    let two = sym (delivery_records_are _ _ _ _ c.new-2.ensures.records) in
     let cells = c.set_cells_from.ensures in
     let vectors = cells.vectors ∙ ap (λ rs. set_from (first_cell s) (vectors_of w rs) a.vectors.now) one in
     let meaning = g.T.Transform.meaning a.self.now.transform.now in

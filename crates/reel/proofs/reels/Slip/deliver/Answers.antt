@@ -1,7 +1,7 @@
 use Rattle.std.proofs.Common.{◌<◌, Ok, length, sym, refl, ap, ◌∙◌, arith}
 use Rattle.pictures.specs.declared.layouts.Segment.{Segment}
 use Rattle.pictures.proofs.Rows.{segmented}
-use Rattle.rebuild.specs.Rebuilt.{accepted, count_of}
+use Rattle.rebuild.specs.Rebuilt.{count_of, delivery_records}
 use Rattle.calls.specs.Effects.{segment_rebuilt}
 use Rattle.calls.specs.Held.{fits}
 use Rattle.reel.specs.Calls.{held_after}
@@ -64,12 +64,12 @@ returns g c =
       answer = rw e (ap Ok told.counts_are);
       memory =
           rw e (c.rebuild_in.ensures
-          ∙ ap (λ (x : Segment). segment_rebuilt (g.T.Transform.meaning c.args.transform.now) x slip.rounding (accepted slip.kind (count_of x) c.args.bytes.now) held) s);
+          ∙ ap (λ (x : Segment). segment_rebuilt (g.T.Transform.meaning c.args.transform.now) x slip.rounding (delivery_records slip.kind (count_of x) c.args.bytes.now) held) s);
       untouched = tt;
       format = refl;
       size =
           ap (fits slip.reel.format) (c.rebuild_in.ensures
-          ∙ ap (λ (x : Segment). segment_rebuilt (g.T.Transform.meaning c.args.transform.now) x slip.rounding (accepted slip.kind (count_of x) c.args.bytes.now) held) s
+          ∙ ap (λ (x : Segment). segment_rebuilt (g.T.Transform.meaning c.args.transform.now) x slip.rounding (delivery_records slip.kind (count_of x) c.args.bytes.now) held) s
           ∙ sym (ap (λ v. held_after (g.T.Transform.meaning c.args.transform.now) slip c.args.segment v held) e))
           ∙ size_delivered (g.T.Transform.meaning c.args.transform.now) slip held c.args.segment c.args.bytes.now;
     }
