@@ -1,5 +1,6 @@
 -- The places of a macroblock, block by block.
 use Rattle.std.proofs.Common.{◌≡◌, ℕ, zero, suc, ◌+◌, ◌*◌, ◌%◌, ◌<◌, ◌≤◌, Bool, true, false, ◌&&◌, ◌||◌, eqb, ltb, List, Option, get_or, ℤ, pos, refl, arith}
+use Rattle.std.proofs.Math.Bool.{and-false}
 use Rattle.records.specs.declared.types.Macroblock.{Macroblock}
 use Rattle.records.specs.declared.types.Macroblock.TheVariants.{Skipped, Inter, Intra}
 use Rattle.motion.specs.declared.vectors.Vector.{Vector}
@@ -70,10 +71,6 @@ in_block column row (suc (suc zero)) q u v h e = (grind (arith, nat_tests), grin
 in_block column row (suc (suc (suc zero))) q u v h e = (grind (arith, nat_tests), grind (arith, nat_tests))
 in_block column row (suc (suc (suc (suc b)))) q u v h e = (grind (arith, nat_tests), grind (arith, nat_tests))
 
-and_false : (b : Bool) → (b && false) ≡ false
-and_false true = refl
-and_false false = refl
-
 -- what is painted of the same samples at its places is one picture
 pub agreeing : (places : ℕ → ℕ → ℕ → Bool) (new new' : ℕ → ℕ → ℕ → ℕ) (f : Picture)
     → ((q u v : ℕ) → places q u v ≡ true → new q u v ≡ new' q u v) → painted places new f ≡ painted places new' f
@@ -81,7 +78,7 @@ agreeing places new new' f same = same_picture _ _ refl refl (λ q u v. at q u v
   where
     at : (q u v : ℕ) (b : Bool) → places q u v ≡ b → (painted places new f).sample q u v ≡ (painted places new' f).sample q u v
     at q u v true e = simp (e, same q u v e)
-    at q u v false e = simp (e, and_false (has f q u v))
+    at q u v false e = simp (e, and-false (has f q u v))
 
 -- a block's samples are the macroblock's
 pub block_samples : (meaning : List ℤ → ℕ → ℕ → ℤ) (s : Segment) (rounding : ℕ) (picture : ℕ → ℕ → ℕ → ℕ) (m : Macroblock) (vector : Vector) (source : Option Vector) (residual : List ℤ) (p b q u v : ℕ)

@@ -1,6 +1,7 @@
 -- A block is a square of a plane, by rows.
-use Rattle.std.proofs.Common.{◌≡◌, ℕ, ◌+◌, ◌-◌, ◌*◌, ◌/◌, ◌%◌, ◌<◌, ◌≤◌, zero, suc, true, List, None, Option, get_or, replicate, ℤ, pos, ◌+ℤ◌, refl, ap, ◌∙◌, arith}
+use Rattle.std.proofs.Common.{◌≡◌, ℕ, ◌+◌, ◌-◌, ◌*◌, ◌/◌, ◌%◌, ◌<◌, ◌≤◌, true, List, None, Option, get_or, replicate, ℤ, pos, ◌+ℤ◌, refl, ap, ◌∙◌, arith}
 use Rattle.std.proofs.lemmas.Bool.Decides.{nat_tests}
+use Rattle.std.proofs.lemmas.List.{get_or-replicate}
 use Rattle.motion.specs.declared.vectors.Vector.{Vector}
 use Rattle.pictures.specs.declared.layouts.Segment.{Segment}
 use Rattle.pictures.specs.Pictures.{square_at}
@@ -11,15 +12,10 @@ pub is_block : (p left top q u v : ℕ) → square_at p left top q u v ≡ block
 unfolding square_at block_at
 is_block p left top q u v = refl
 
-zeros : (n k : ℕ) → ◌≡◌ {A = ℕ} (get_or (replicate n 0) k 0) 0
-zeros zero k = refl
-zeros (suc n) zero = refl
-zeros (suc n) (suc k) = zeros n k
-
 -- where nothing is predicted
-pub nothing : (s : Segment) (rounding : ℕ) (picture : ℕ → ℕ → ℕ → ℕ) (source : Option Vector) (p x y k : ℕ) → source ≡ None
+pub nothing : (s : Segment) (rounding : ℕ) (picture : ℕ → ℕ → ℕ → ℕ) (source : Option Vector) (p x y k : ℕ) → k < 64 → source ≡ None
     → get_or (replicate 64 0) k 0 ≡ predicted_from s rounding picture source p x y
-nothing s rounding picture source p x y k e = rw e (zeros 64 k)
+nothing s rounding picture source p x y k h e = rw e (get_or-replicate 64 k 0 0 h)
 
 -- what a place of a block says of its numbers
 record At (p left top q u v : ℕ) : Type 0 where

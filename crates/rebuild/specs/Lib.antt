@@ -3,3 +3,4 @@ pub mod Macroblocks
 pub mod Segments
 pub mod Rebuilt
 pub mod Laws
+pub mod Rebuilders

@@ -2,8 +2,8 @@
 ghost use Rattle.std.specs.Prelude.{◌≡◌, ℕ, ◌+◌, ◌/◌, ◌%◌, ◌<◌, pos, ◌+ℤ◌, slice_index, slice_index_or};
 ghost use Rattle.pictures.specs.Pictures.{painted};
 ghost use Rattle.samples.specs.Clipping.{clipped};
-ghost use Rattle.samples.specs.Prediction.{rounding_of};
-ghost use Rattle.rebuild.specs.Blocks.{block_at, predicted_from, summed, values_of};
+ghost use Rattle.rebuild.specs.Blocks.{block_at, values_of};
+ghost use Rattle.rebuild.specs.Rebuilders.{predicted_in, summed_in};
 
 use crate::places::BlockPlace;
 use motion::vectors::Vector;
@@ -18,7 +18,7 @@ fn predicted_block<S: Store>(
     source: Option<Vector>,
     place: BlockPlace,
 ) -> [u8; 64]
-    ensures { let w = window.now in (k : ℕ) → k < 64 → slice_index result k ≡ predicted_from w.segment (rounding_of w.rounding) (S.picture w.finished.now).sample source place.plane (place.left + k % 8) (place.top + k / 8) }
+    ensures { (k : ℕ) → k < 64 → slice_index result k ≡ predicted_in S.picture window.now source place.plane (place.left + k % 8) (place.top + k / 8) }
 {
     let BlockPlace { plane, left, top } = place;
     match source {
@@ -45,7 +45,7 @@ pub fn rebuild_block<S: Store>(
     place: BlockPlace,
     residual: &Option<[i16; 64]>,
 )
-    ensures { let w = window.now in S.picture working.new ≡ painted (block_at place.plane place.left place.top) (summed w.segment (rounding_of w.rounding) (S.picture w.finished.now).sample source (values_of residual.now)) (S.picture working.old) }
+    ensures { S.picture working.new ≡ painted (block_at place.plane place.left place.top) (summed_in S.picture window.now source (values_of residual.now)) (S.picture working.old) }
 {
     let sums = sums_of(predicted_block(window, source, place), residual);
     let BlockPlace { plane, left, top } = place;

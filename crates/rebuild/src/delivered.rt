@@ -4,9 +4,9 @@ ghost use Rattle.motion.specs.Cells.{Room, ages_of, marks_of};
 ghost use Rattle.motion.specs.Vectors.{vectors_of};
 ghost use Rattle.records.specs.Again.{records_of};
 ghost use Rattle.records.specs.Deliveries.{read};
-ghost use Rattle.samples.specs.Prediction.{rounding_of};
 ghost use Rattle.rebuild.specs.Laws.{Independent};
-ghost use Rattle.rebuild.specs.Rebuilt.{Spans, count_of, delivery_records, first_cell, rebuilt, set_from, width_of};
+ghost use Rattle.rebuild.specs.Rebuilt.{Spans, count_of, delivery_records, first_cell, set_from, width_of};
+ghost use Rattle.rebuild.specs.Rebuilders.{rebuilt_by};
 
 use crate::rebuilder::Rebuilder;
 use deblocking::deblock_segment;
@@ -62,7 +62,7 @@ impl<S: Store, T: Transform> Rebuilder<'_, '_, S, T> {
         requires spans { Spans self.now.window.segment (S.picture working.old).wide }
         requires accepted { is_ok (read kind (count_of self.now.window.segment) bytes.now) ≡ true }
         requires room { let s = self.now.window.segment in Room (s.bottom * width_of s) finished_ages.now ages.old vectors.old marks.old }
-        ensures samples { let w = self.now.window in S.picture working.new ≡ rebuilt (T.meaning self.now.transform.now) w.segment (rounding_of w.rounding) (S.picture w.finished.now).sample (delivery_records kind (count_of w.segment) bytes.now) marks.new (S.picture working.old) }
+        ensures samples { S.picture working.new ≡ rebuilt_by S.picture T.meaning self.now (delivery_records kind (count_of self.now.window.segment) bytes.now) marks.new (S.picture working.old) }
         ensures ages { let s = self.now.window.segment in ages.new ≡ set_from (first_cell s) (ages_of (delivery_records kind (count_of s) bytes.now) (drop (first_cell s) finished_ages.now)) ages.old }
         ensures vectors { let s = self.now.window.segment in vectors.new ≡ set_from (first_cell s) (vectors_of (width_of s) (delivery_records kind (count_of s) bytes.now)) vectors.old }
         ensures marks { let s = self.now.window.segment in marks.new ≡ set_from (first_cell s) (marks_of (delivery_records kind (count_of s) bytes.now)) marks.old }

@@ -1,9 +1,9 @@
 // Rebuilding a macroblock.
 ghost use Rattle.std.specs.Prelude.{◌≡◌, ℕ, ◌+◌, ◌*◌, ◌%◌, ◌<◌, ◌≤◌, List, ℤ, pos, slice_index_or};
 ghost use Rattle.pictures.specs.Pictures.{painted};
-ghost use Rattle.samples.specs.Prediction.{rounding_of};
 ghost use Rattle.rebuild.specs.Blocks.{values_of};
-ghost use Rattle.rebuild.specs.Macroblocks.{coded_sample, coefficients_of, component_for, macroblock_at, macroblock_sample, residual_of, source_for};
+ghost use Rattle.rebuild.specs.Macroblocks.{coefficients_of, component_for, macroblock_at, residual_of, source_for};
+ghost use Rattle.rebuild.specs.Rebuilders.{coded_sample_by, macroblock_sample_by};
 
 use crate::block::{copy_block, rebuild_block};
 use crate::places::MacroblockPlace;
@@ -96,7 +96,7 @@ impl<S: Store, T: Transform> Rebuilder<'_, '_, S, T> {
         macroblock: &Macroblock,
         vector: Vector,
     )
-        ensures { let w = self.now.window in S.picture working.new ≡ painted (macroblock_at place.column place.row) (coded_sample (T.meaning self.now.transform.now) w.segment (rounding_of w.rounding) (S.picture w.finished.now).sample macroblock.now vector) (S.picture working.old) }
+        ensures { S.picture working.new ≡ painted (macroblock_at place.column place.row) (coded_sample_by S.picture T.meaning self.now macroblock.now vector) (S.picture working.old) }
     {
         for block in 0..6 {
             let at = place.block(block);
@@ -114,7 +114,7 @@ impl<S: Store, T: Transform> Rebuilder<'_, '_, S, T> {
         macroblock: &Macroblock,
         vector: Vector,
     )
-        ensures { let w = self.now.window in S.picture working.new ≡ painted (macroblock_at place.column place.row) (macroblock_sample (T.meaning self.now.transform.now) w.segment (rounding_of w.rounding) (S.picture w.finished.now).sample macroblock.now vector) (S.picture working.old) }
+        ensures { S.picture working.new ≡ painted (macroblock_at place.column place.row) (macroblock_sample_by S.picture T.meaning self.now macroblock.now vector) (S.picture working.old) }
     {
         match macroblock {
             Macroblock::Skipped => copy_macroblock(self.window.finished, working, place),

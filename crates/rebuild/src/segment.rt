@@ -1,9 +1,7 @@
 // Rebuilding the samples of a segment, before the deblocking filter.
 ghost use Rattle.std.specs.Prelude.{◌≡◌, ℕ, ◌+◌, ◌-◌, ◌*◌, ◌<◌, ◌≤◌, length, drop};
-ghost use Rattle.pictures.specs.Pictures.{covers, painted};
 ghost use Rattle.records.specs.Again.{records_of};
-ghost use Rattle.samples.specs.Prediction.{rounding_of};
-ghost use Rattle.rebuild.specs.Segments.{cell_at, column_at, samples_by};
+ghost use Rattle.rebuild.specs.Rebuilders.{unfiltered_by, unfiltered_row_by};
 
 use crate::places::MacroblockPlace;
 use crate::rebuilder::Rebuilder;
@@ -27,7 +25,7 @@ impl<S: Store, T: Transform> Rebuilder<'_, '_, S, T> {
         requires row { row ≤ 22 }
         requires first { first ≤ 65535 }
         requires records { let s = self.now.window.segment in s.right - s.left ≤ length (records_of delivery.old) }
-        ensures samples { let w = self.now.window in S.picture working.new ≡ painted (covers (record w.segment { top = row; bottom = row + 1 })) (samples_by (T.meaning self.now.transform.now) w.segment (rounding_of w.rounding) (S.picture w.finished.now).sample (records_of delivery.old) (drop first vectors.now) (column_at w.segment)) (S.picture working.old) }
+        ensures samples { S.picture working.new ≡ unfiltered_row_by S.picture T.meaning self.now row (records_of delivery.old) (drop first vectors.now) (S.picture working.old) }
         ensures records { let s = self.now.window.segment in records_of delivery.new ≡ drop (s.right - s.left) (records_of delivery.old) }
     {
         let Segment { left, right, .. } = self.window.segment;
@@ -56,7 +54,7 @@ impl<S: Store, T: Transform> Rebuilder<'_, '_, S, T> {
     )
         requires records { let s = self.now.window.segment in (s.bottom - s.top) * (s.right - s.left) ≤ length (records_of delivery) }
         requires start { start ≤ 5000 }
-        ensures { let w = self.now.window in S.picture working.new ≡ painted (covers w.segment) (samples_by (T.meaning self.now.transform.now) w.segment (rounding_of w.rounding) (S.picture w.finished.now).sample (records_of delivery.entry) (drop start vectors.now) (cell_at w.segment)) (S.picture working.old) }
+        ensures { S.picture working.new ≡ unfiltered_by S.picture T.meaning self.now (records_of delivery.entry) (drop start vectors.now) (S.picture working.old) }
     {
         let Segment {
             left,

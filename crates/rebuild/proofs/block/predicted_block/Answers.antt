@@ -7,4 +7,4 @@ pub returns-in-None : goal.returns-in-None
 returns-in-None g c k h =
     let w = c.args.window.now in
     let p = c.args.place in
-    nothing w.segment (rounding_of w.rounding) (g.S.Store.picture w.finished.now).sample c.args.source p.plane (p.left + k % 8) (p.top + k / 8) k c.in-None.is
+    nothing w.segment (rounding_of w.rounding) (g.S.Store.picture w.finished.now).sample c.args.source p.plane (p.left + k % 8) (p.top + k / 8) k h c.in-None.is

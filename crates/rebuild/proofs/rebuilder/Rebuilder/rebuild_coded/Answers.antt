@@ -1,8 +1,8 @@
 use Rattle.std.proofs.Common.{◌+◌, ◌%◌, ap, ◌∙◌, arith}
 use Rattle.pictures.proofs.Painting.{alike, both, none}
-use Rattle.samples.specs.Prediction.{rounding_of}
 use Rattle.rebuild.specs.Blocks.{block_at}
-use Rattle.rebuild.specs.Macroblocks.{left_in, coded_sample, plane_of, source_for, top_in}
+use Rattle.rebuild.specs.Macroblocks.{left_in, plane_of, source_for, top_in}
+use Rattle.rebuild.specs.Rebuilders.{coded_sample_by}
 use Rattle.rebuild.proofs.Sixths.{agreeing, block_samples, blocks_all, blocks_more, blocks_none, in_block, macroblock_up_to}
 use Rattle.rebuild.proofs.rebuilder.Rebuilder.rebuild_coded.Goals as goal
 
@@ -14,7 +14,7 @@ loop-block-preserved g c =
     let a = c.args in
     let b = c.loop-block.block in
     let place = c.block-at.ensures in
-    let new = coded_sample (g.T.Transform.meaning a.self.now.transform.now) a.self.now.window.segment (rounding_of a.self.now.window.rounding) (g.S.Store.picture a.self.now.window.finished.now).sample a.macroblock.now a.vector in
+    let new = coded_sample_by g.S.Store.picture g.T.Transform.meaning a.self.now a.macroblock.now a.vector in
     both (macroblock_up_to a.place.column a.place.row b) (block_at (plane_of b) (left_in a.place.column b) (top_in a.place.row b)) (macroblock_up_to a.place.column a.place.row (b + 1)) new
     _ (g.S.Store.picture c.loop-block.working) (g.S.Store.picture c.rebuild_block.new.working) c.loop-block.invariant
     (simp (place.plane, place.left, place.top) at c.rebuild_block.ensures

@@ -4,9 +4,9 @@ use Rattle.records.specs.Again.{records_of}
 use Rattle.records.specs.declared.types.Macroblock.TheVariants.{Skipped}
 use Rattle.motion.proofs.Gathered.{next_of}
 use Rattle.pictures.proofs.Painting.{alike, both, none}
-use Rattle.samples.specs.Prediction.{rounding_of}
 use Rattle.rebuild.specs.Macroblocks.{macroblock_at}
-use Rattle.rebuild.specs.Segments.{column_at, samples_by}
+use Rattle.rebuild.specs.Segments.{column_at}
+use Rattle.rebuild.specs.Rebuilders.{segment_samples_by}
 use Rattle.rebuild.proofs.Sixths.{agreeing}
 use Rattle.rebuild.proofs.Rectangles.{column_of, columns_more, next_is, no_columns, rectangle, rectangle_covers, samples_by_lem}
 use Rattle.rebuild.proofs.rebuilder.Rebuilder.rebuild_row.Goals as goal
@@ -27,7 +27,7 @@ loop-column-preserved g c =
     let records = records_of a.delivery.now in
     let came = sym c.loop-column.invariant.1 ∙ c.in-Some.ensures.steps in
     let n = next_of records i _ _ came in
-    let new = samples_by (g.T.Transform.meaning a.self.now.transform.now) s (rounding_of a.self.now.window.rounding) (g.S.Store.picture a.self.now.window.finished.now).sample records (drop a.first a.vectors.now) (column_at s) in
+    let new = segment_samples_by g.S.Store.picture g.T.Transform.meaning a.self.now records (drop a.first a.vectors.now) (column_at s) in
     let one : column + 1 - s.left ≡ i + 1 = omega (arith, c.loop-column.auto.column) in (
       both (rectangle s.left column a.row (a.row + 1)) (macroblock_at column a.row) (rectangle s.left (column + 1) a.row (a.row + 1)) new
           _ (g.S.Store.picture c.loop-column.working) (g.S.Store.picture c.rebuild_macroblock.new.working) c.loop-column.invariant.0

@@ -1,8 +1,8 @@
 use Rattle.std.proofs.Common.{◌≡◌, ◌+◌, ◌-◌, drop}
 use Rattle.pictures.specs.Pictures.{painted}
 use Rattle.records.specs.Again.{records_of}
-use Rattle.samples.specs.Prediction.{rounding_of}
-use Rattle.rebuild.specs.Segments.{column_at, samples_by}
+use Rattle.rebuild.specs.Segments.{column_at}
+use Rattle.rebuild.specs.Rebuilders.{segment_samples_by}
 use Rattle.rebuild.proofs.Rectangles.{rectangle}
 use Rattle.rebuild.proofs.rebuilder.Rebuilder.rebuild_row.Given as goal
 
@@ -11,6 +11,6 @@ abbrev pub invariant-loop-column : goal.invariant-loop-column
 invariant-loop-column g l =
     (g.S.Store.picture l.working
     ≡ painted (rectangle l.self.window.segment.left l.column l.row (l.row + 1))
-    (samples_by (g.T.Transform.meaning l.self.transform.now) l.self.window.segment (rounding_of l.self.window.rounding) (g.S.Store.picture l.self.window.finished.now).sample (records_of l.initial.delivery) (drop l.first l.vectors) (column_at l.self.window.segment))
+    (segment_samples_by g.S.Store.picture g.T.Transform.meaning l.self (records_of l.initial.delivery) (drop l.first l.vectors) (column_at l.self.window.segment))
     (g.S.Store.picture l.initial.working))
     × (records_of l.delivery ≡ drop (l.column - l.self.window.segment.left) (records_of l.initial.delivery))

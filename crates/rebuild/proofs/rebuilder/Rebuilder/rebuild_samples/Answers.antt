@@ -2,8 +2,8 @@ use Rattle.std.proofs.Common.{◌≡◌, ◌+◌, ◌-◌, ◌*◌, drop, sym, r
 use Rattle.std.proofs.lemmas.List.{drop-drop}
 use Rattle.records.specs.Again.{records_of}
 use Rattle.pictures.proofs.Painting.{alike, both, none}
-use Rattle.samples.specs.Prediction.{rounding_of}
-use Rattle.rebuild.specs.Segments.{cell_at, column_at, samples_by}
+use Rattle.rebuild.specs.Segments.{cell_at, column_at, row_in}
+use Rattle.rebuild.specs.Rebuilders.{segment_samples_by}
 use Rattle.rebuild.proofs.Sixths.{agreeing}
 use Rattle.rebuild.proofs.Rectangles.{no_rows, rectangle, rectangle_covers, row_cells, row_samples, rows_more}
 use Rattle.rebuild.proofs.rebuilder.Rebuilder.rebuild_samples.Goals as goal
@@ -21,12 +21,12 @@ loop-row-preserved g c =
     let row = c.loop-row.row in
     let records = records_of a.delivery in
     let first = (row - s.top) * (s.right - s.left) in
-    let new = samples_by (g.T.Transform.meaning a.self.now.transform.now) s (rounding_of a.self.now.window.rounding) (g.S.Store.picture a.self.now.window.finished.now).sample records (drop a.start a.vectors.now) (cell_at s) in
-    let part = samples_by (g.T.Transform.meaning a.self.now.transform.now) s (rounding_of a.self.now.window.rounding) (g.S.Store.picture a.self.now.window.finished.now).sample (records_of c.loop-row.delivery) (drop (a.start + first) a.vectors.now) (column_at s) in (
+    let new = segment_samples_by g.S.Store.picture g.T.Transform.meaning a.self.now records (drop a.start a.vectors.now) (cell_at s) in
+    let part = segment_samples_by g.S.Store.picture g.T.Transform.meaning a.self.now (records_of c.loop-row.delivery) (drop (a.start + first) a.vectors.now) (column_at s) in (
       both (rectangle s.left s.right s.top row) (rectangle s.left s.right row (row + 1)) (rectangle s.left s.right s.top (row + 1)) new
           _ (g.S.Store.picture c.loop-row.working) (g.S.Store.picture c.rebuild_row.new.working) c.loop-row.invariant.0
           (c.rebuild_row.ensures.samples
-          ∙ alike _ (rectangle s.left s.right row (row + 1)) part (g.S.Store.picture c.loop-row.working) (λ q u v h. sym (rectangle_covers (g.S.Store.picture c.loop-row.working) (record { left = s.left; right = s.right; top = row; bottom = row + 1 }) q u v h))
+          ∙ alike _ (rectangle s.left s.right row (row + 1)) part (g.S.Store.picture c.loop-row.working) (λ q u v h. sym (rectangle_covers (g.S.Store.picture c.loop-row.working) (row_in s row) q u v h))
           ∙ agreeing _ part new (g.S.Store.picture c.loop-row.working) (λ q u v e. row_samples _ s _ _ records _ (drop a.start a.vectors.now) _ row first q u v refl c.loop-row.invariant.1 (sym (drop-drop first a.start a.vectors.now)) e))
           (λ q u v. rows_more s.left s.right s.top row q u v c.loop-row.auto.row),
       c.rebuild_row.ensures.records ∙ ap (drop (s.right - s.left)) c.loop-row.invariant.1 ∙ drop-drop (s.right - s.left) first records ∙ ap (λ k. drop k records) (row_cells row s.top (s.right - s.left) c.loop-row.auto.row),
