@@ -15,7 +15,7 @@ use Rattle.calls.specs.declared.faults.PictureFault.{PictureFault}
 use Rattle.calls.specs.Held.{Held}
 use Rattle.calls.specs.Questions.{in_grid, judge_age, judge_closing, judge_delivery, judge_opening, kind_of, rounding_from}
 use Rattle.calls.specs.Effects.{age_at, fill_age, segment_rebuilt}
-use Rattle.calls.specs.Laws.{Aged, Book, Coding, age_by, empty_book, coded_since, coded_intra, count, delivered_records, granted, is_intra_picture, log, noted, read_off}
+use Rattle.calls.specs.Laws.{Aged, Book, Coding, age_by, empty_book, coded_since, coded_intra, count, records_of_segment, granted, is_intra_picture, log, noted, read_off}
 use Rattle.calls.specs.Runs.{Calling, Contents, Control, Setting, Stage, State, after, all_fit, answer, control, delivered, finish, finished_of, if_accepted, new, onward, open_to, resting, run, setting_of, step, taken, answer_or_refusal, unmarked, when_read}
 use Rattle.calls.specs.declared.answers.Call.TheVariants.{Open as opening, Deliver as delivering, Close as closing, Sample as asking_sample, Age as asking_age}
 use Rattle.calls.proofs.Alike.{Based, all_intra, all_read}
@@ -190,7 +190,7 @@ module _ (w : Setting) where
 
       same : (c r : ℕ)
           → cond (eqb (segment_of_row b.layout r) segment)
-          (coded_intra format b.layout segment (delivered_records format b.coding.kind b.layout segment bytes) c r) (b.coding.intra c r)
+          (coded_intra format b.layout segment (records_of_segment format b.coding.kind b.layout segment bytes) c r) (b.coding.intra c r)
           ≡ cond (own r) (coded c r) (b.coding.intra c r)
       same c r = rw (o.kind_is, o.layout_is, delivery_records_are k _ bytes ms was.was_read) refl
 

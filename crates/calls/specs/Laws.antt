@@ -141,8 +141,8 @@ unfoldable pub coded_intra : Format → ℕ → ℕ → List Macroblock → ℕ 
 coded_intra format layout segment records column row = intra_at records ((row - first_row format layout segment) * columns_of format + column)
 
 -- the records in the bytes of an accepted delivery
-abbrev pub delivered_records : Format → PictureKind → ℕ → ℕ → List ℕ → List Macroblock
-delivered_records format kind layout segment bytes = delivery_records kind (macroblocks_in format layout segment) bytes
+abbrev pub records_of_segment : Format → PictureKind → ℕ → ℕ → List ℕ → List Macroblock
+records_of_segment format kind layout segment bytes = delivery_records kind (macroblocks_in format layout segment) bytes
 
 -- what an accepted call adds
 abbrev pub noted : Format → Book → Calling → Book
@@ -155,7 +155,7 @@ noted format b (delivering segment bytes) =
         kind = b.coding.kind;
         intra = λ c r.
             cond (segment_of_row b.layout r == segment)
-            (coded_intra format b.layout segment (delivered_records format b.coding.kind b.layout segment bytes) c r)
+            (coded_intra format b.layout segment (records_of_segment format b.coding.kind b.layout segment bytes) c r)
             (b.coding.intra c r);
       };
       closed_ones = b.closed_ones;
