@@ -30,6 +30,6 @@ room_enough (Some format) per cells columns rows e =
 pub same_size : (columns columns' rows rows' : ℕ) → (eqb columns columns' && eqb rows rows') ≡ true → (columns ≡ columns') × (rows ≡ rows')
 same_size columns columns' rows rows' e = (grind (arith, nat_tests), grind (arith, nat_tests))
 
--- so what is kept lies below a number that fits
+-- what is kept lies below a number that fits
 pub small : (columns rows at : ℕ) → columns ≤ 22 → rows ≤ 18 → at < columns * rows * 384 → at < 396 * 384
 small columns rows at w h l = omega (arith, l, mul-le-mul w h)

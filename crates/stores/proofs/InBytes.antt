@@ -130,9 +130,6 @@ square_kept columns rows p x y w =
     omega (arith, address_below columns rows p (x + 7) (y + 7) w, beside columns rows p x (y + 7) 7, below columns rows p x y 7)
 
 module _ (columns rows p x y at stride : ℕ) (kept : RowsAt columns rows p x y at stride) where
-  corner : Within columns rows p x y
-  corner = within columns rows p x y kept.isin
-
   in_square : (row d : ℕ) → row < 8 → d < 8 → Within columns rows p (x + d) (y + row)
   in_square row d h k =
       let w = within columns rows p (x + 7) (y + 7) kept.last in

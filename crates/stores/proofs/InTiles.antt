@@ -301,9 +301,8 @@ eight_moved f p x y first second third left right a b c l r i h =
 -- a square's words lie inside
 pub word_isin : (columns rows p x y n : ℕ) → SquareAt columns rows p x y → n < 16 → inside columns rows p (x + n % 2 * 4) (y + n / 2) ≡ true
 word_isin columns rows p x y n at h =
-    let a = within columns rows p x y at.isin in
     let w = within columns rows p (x + 7) (y + 7) at.last in
-    is_within columns rows p (x + n % 2 * 4) (y + n / 2) (record { plane = a.plane; across = omega (arith, w.across); down = omega (arith, w.down) })
+    is_within columns rows p (x + n % 2 * 4) (y + n / 2) (record { plane = w.plane; across = omega (arith, w.across); down = omega (arith, w.down) })
 
 -- a word is set with four values, from one of them on
 pub word_with : (columns rows p x y b w : ℕ) (words values : List ℕ) (word : ℕ) (new : ℕ → ℕ → ℕ → ℕ) → ((k : ℕ) → get_or values k 0 < 256)

@@ -21,7 +21,6 @@ pub record RunAt (columns rows p x y right at count : ℕ) : Type 0 where
 
 -- eight bytes from each of eight places on, so far apart, hold the samples of the square of 8 by 8 in plane p from x and y on
 pub record RowsAt (columns rows p x y at stride : ℕ) : Type 0 where
-  pub isin : inside columns rows p x y ≡ true
   pub last : inside columns rows p (x + 7) (y + 7) ≡ true
   pub from : at ≡ byte_address columns rows p x y
   pub apart : stride ≡ columns * side p

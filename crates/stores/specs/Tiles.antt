@@ -47,7 +47,6 @@ pub record WordAt (columns rows p x y right word : ℕ) : Type 0 where
 -- the square of 8 by 8 in plane p from x and y on lies inside, and words begin at its left side
 pub record SquareAt (columns rows p x y : ℕ) : Type 0 where
   pub begins : x % 4 ≡ 0
-  pub isin : inside columns rows p x y ≡ true
   pub last : inside columns rows p (x + 7) (y + 7) ≡ true
 
 -- the picture that words hold, where it has so many columns and rows

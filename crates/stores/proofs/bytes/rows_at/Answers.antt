@@ -13,7 +13,6 @@ returns c =
     let a = c.args in
     let last = sym c.is_inside.ensures ∙ c.if-not-is_inside.false in
     record {
-      isin = c.address-at.ensures.isin;
       last = last;
       from = c.address-at.ensures.from;
       apart = ap (λ s. a.size.columns * s) c.side_of.ensures;
