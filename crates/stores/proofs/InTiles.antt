@@ -215,33 +215,33 @@ word_row columns rows p x y w words isin at c h =
     let m : (4 * w + c) % 4 ≡ c = omega arith in
     sym (cond-true _ _ _ there ∙ ap (lane_at words) a ∙ ap (λ z. get_or (four (get_or words z 0)) ((4 * w + c) % 4) 0) d ∙ ap (λ z. get_or (four (get_or words w 0)) z 0) m)
 
--- two words side by side, moved on by so many lanes
-moved_on : (first second skip j : ℕ) → first < 4294967296 → second < 4294967296 → skip < 4 → j < 4
+-- two words side by side, shifted by so many lanes
+lane_shifted : (first second skip j : ℕ) → first < 4294967296 → second < 4294967296 → skip < 4 → j < 4
     → get_or (four ((first * 4294967296 + second) / 2 ^ (32 - 8 * skip) % 4294967296)) j 0 ≡ get_or (four first ++ four second) (skip + j) 0
-moved_on first second zero zero h i k l = omega arith
-moved_on first second zero (suc zero) h i k l = omega arith
-moved_on first second zero (suc (suc zero)) h i k l = omega arith
-moved_on first second zero (suc (suc (suc zero))) h i k l = omega arith
-moved_on first second (suc zero) zero h i k l = omega arith
-moved_on first second (suc zero) (suc zero) h i k l = omega arith
-moved_on first second (suc zero) (suc (suc zero)) h i k l = omega arith
-moved_on first second (suc zero) (suc (suc (suc zero))) h i k l = omega arith
-moved_on first second (suc (suc zero)) zero h i k l = omega arith
-moved_on first second (suc (suc zero)) (suc zero) h i k l = omega arith
-moved_on first second (suc (suc zero)) (suc (suc zero)) h i k l = omega arith
-moved_on first second (suc (suc zero)) (suc (suc (suc zero))) h i k l = omega arith
-moved_on first second (suc (suc (suc zero))) zero h i k l = omega arith
-moved_on first second (suc (suc (suc zero))) (suc zero) h i k l = omega arith
-moved_on first second (suc (suc (suc zero))) (suc (suc zero)) h i k l = omega arith
-moved_on first second (suc (suc (suc zero))) (suc (suc (suc zero))) h i k l = omega arith
-moved_on first second (suc (suc (suc (suc s)))) j h i k l = absurd (omega arith)
-moved_on first second skip (suc (suc (suc (suc j)))) h i k l = absurd (omega arith)
+lane_shifted first second zero zero h i k l = omega arith
+lane_shifted first second zero (suc zero) h i k l = omega arith
+lane_shifted first second zero (suc (suc zero)) h i k l = omega arith
+lane_shifted first second zero (suc (suc (suc zero))) h i k l = omega arith
+lane_shifted first second (suc zero) zero h i k l = omega arith
+lane_shifted first second (suc zero) (suc zero) h i k l = omega arith
+lane_shifted first second (suc zero) (suc (suc zero)) h i k l = omega arith
+lane_shifted first second (suc zero) (suc (suc (suc zero))) h i k l = omega arith
+lane_shifted first second (suc (suc zero)) zero h i k l = omega arith
+lane_shifted first second (suc (suc zero)) (suc zero) h i k l = omega arith
+lane_shifted first second (suc (suc zero)) (suc (suc zero)) h i k l = omega arith
+lane_shifted first second (suc (suc zero)) (suc (suc (suc zero))) h i k l = omega arith
+lane_shifted first second (suc (suc (suc zero))) zero h i k l = omega arith
+lane_shifted first second (suc (suc (suc zero))) (suc zero) h i k l = omega arith
+lane_shifted first second (suc (suc (suc zero))) (suc (suc zero)) h i k l = omega arith
+lane_shifted first second (suc (suc (suc zero))) (suc (suc (suc zero))) h i k l = omega arith
+lane_shifted first second (suc (suc (suc (suc s)))) j h i k l = absurd (omega arith)
+lane_shifted first second skip (suc (suc (suc (suc j)))) h i k l = absurd (omega arith)
 
-pub lanes_moved : (first second a b skip j : ℕ) → a ≡ first → b ≡ second → first < 4294967296 → second < 4294967296 → skip < 4 → j < 4
+pub lanes_shifted : (first second a b skip j : ℕ) → a ≡ first → b ≡ second → first < 4294967296 → second < 4294967296 → skip < 4 → j < 4
     → get_or (four ((a * 4294967296 + b) / 2 ^ (32 - 8 * skip) % 4294967296)) j 0 ≡ get_or (four first ++ four second) (skip + j) 0
-lanes_moved first second a b skip j e f h i k l =
+lanes_shifted first second a b skip j e f h i k l =
     ap (λ n. get_or (four ((n * 4294967296 + b) / 2 ^ (32 - 8 * skip) % 4294967296)) j 0) e
-    ∙ ap (λ n. get_or (four ((first * 4294967296 + n) / 2 ^ (32 - 8 * skip) % 4294967296)) j 0) f ∙ moved_on first second skip j h i k l
+    ∙ ap (λ n. get_or (four ((first * 4294967296 + n) / 2 ^ (32 - 8 * skip) % 4294967296)) j 0) f ∙ lane_shifted first second skip j h i k l
 
 -- a lane of two words is one of the first, or of the second
 lane_left : (first second i : ℕ) → i < 4 → get_or (four first ++ four second) i 0 ≡ get_or (four first) i 0
@@ -259,9 +259,9 @@ lane_right first second (suc (suc (suc zero))) h = refl
 lane_right first second (suc (suc (suc (suc i)))) h = absurd (omega arith)
 
 -- the samples of two words that lie side by side, from one of the first's on
-moved : (f : Picture) (p x y skip j first second word : ℕ) → skip < 4 → j < 4 → Row f p x y 4 (four first) → ((4 ≤ skip + j) → Row f p (x + 4) y 4 (four second))
+sample_shifted : (f : Picture) (p x y skip j first second word : ℕ) → skip < 4 → j < 4 → Row f p x y 4 (four first) → ((4 ≤ skip + j) → Row f p (x + 4) y 4 (four second))
     → get_or (four word) j 0 ≡ get_or (four first ++ four second) (skip + j) 0 → get_or (four word) j 0 ≡ f.sample p (x + skip + j) y
-moved f p x y skip j first second word h i a b e =
+sample_shifted f p x y skip j first second word h i a b e =
     ⊎_elim
     (λ (l : skip + j < 4).
     let n : x + (skip + j) ≡ x + skip + j = omega arith in
@@ -274,18 +274,18 @@ moved f p x y skip j first second word h i a b e =
     (cases_lt (skip + j) 4)
 
 -- so eight samples from any place on are those of two words, or of three
-pub eight_moved : (f : Picture) (p x y first second third left right : ℕ) → Row f p (x / 4 * 4) y 4 (four first) → Row f p ((x + 4) / 4 * 4) y 4 (four second)
+pub eight_shifted : (f : Picture) (p x y first second third left right : ℕ) → Row f p (x / 4 * 4) y 4 (four first) → Row f p ((x + 4) / 4 * 4) y 4 (four second)
     → Row f p ((x + 7) / 4 * 4) y 4 (four third)
     → ((j : ℕ) → j < 4 → get_or (four left) j 0 ≡ get_or (four first ++ four second) (x % 4 + j) 0)
     → ((j : ℕ) → j < 4 → get_or (four right) j 0 ≡ get_or (four second ++ four third) (x % 4 + j) 0)
     → (i : ℕ) → i < 8 → get_or (four left ++ four right) i 0 ≡ f.sample p (x + i) y
-eight_moved f p x y first second third left right a b c l r i h =
+eight_shifted f p x y first second third left right a b c l r i h =
     ⊎_elim
     (λ (k : i < 4).
     let n : x / 4 * 4 + x % 4 + i ≡ x + i = omega arith in
     let e : (x + 4) / 4 * 4 ≡ x / 4 * 4 + 4 = omega arith in
     lane_left left right i k
-    ∙ moved f p (x / 4 * 4) y (x % 4) i first second left (omega arith) k a (λ _. rw e at b) (l i k)
+    ∙ sample_shifted f p (x / 4 * 4) y (x % 4) i first second left (omega arith) k a (λ _. rw e at b) (l i k)
     ∙ ap (λ z. f.sample p z y) n)
     (λ (k : 4 ≤ i).
     let d : ℕ = i - 4 in
@@ -293,7 +293,7 @@ eight_moved f p x y first second third left right a b c l r i h =
     let m : i ≡ 4 + d = omega arith in
     let n : (x + 4) / 4 * 4 + x % 4 + d ≡ x + i = omega arith in
     ap (λ z. get_or (four left ++ four right) z 0) m ∙ lane_right left right d g
-    ∙ moved f p ((x + 4) / 4 * 4) y (x % 4) d second third right (omega arith) g b
+    ∙ sample_shifted f p ((x + 4) / 4 * 4) y (x % 4) d second third right (omega arith) g b
     (λ o. let e : (x + 7) / 4 * 4 ≡ (x + 4) / 4 * 4 + 4 = omega arith in rw e at c) (r d g)
     ∙ ap (λ z. f.sample p z y) n)
     (cases_lt i 4)

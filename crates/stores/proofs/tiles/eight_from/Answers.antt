@@ -1,7 +1,7 @@
 use Rattle.std.proofs.Common.{◌+◌, arith, ap, ◌∙◌, get_or}
 use Rattle.pictures.proofs.Addresses.{inside_before}
 use Rattle.stores.specs.Tiles.{tiles_seen}
-use Rattle.stores.proofs.InTiles.{eight_moved}
+use Rattle.stores.proofs.InTiles.{eight_shifted}
 use Rattle.stores.proofs.tiles.eight_from.Goals as goal
 
 pub read_word-first-requires-clause-isin : goal.read_word-first-requires-clause-isin
@@ -14,5 +14,5 @@ pub returns : goal.returns
 returns c = λ i h.
     let a = c.args in
     ap (λ eight. get_or eight i 0) c.eight_of.ensures
-    ∙ eight_moved (tiles_seen a.size.columns a.size.rows a.words.now) a.plane a.across a.down c.read_word-first.result c.read_word-second.result c.read_word-third.result
+    ∙ eight_shifted (tiles_seen a.size.columns a.size.rows a.words.now) a.plane a.across a.down c.read_word-first.result c.read_word-second.result c.read_word-third.result
     c.shifted.result c.shifted-2.result c.read_word-first.ensures c.read_word-second.ensures c.read_word-third.ensures c.shifted.ensures c.shifted-2.ensures i h
