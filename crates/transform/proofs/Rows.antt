@@ -55,6 +55,9 @@ module _ (x : List ℤ) (u n : ℕ) (r y : ℤ) (hu : u < 8) (hn : n < 8) (er : 
 abbrev pub back : ℤ → ℤ
 back z = to_z w64 (of_z w64 z)
 
+abbrev pub back32 : ℤ → ℤ
+back32 z = to_z w32 (of_z w32 z)
+
 plus_back : (a b : ℤ) → nat_abs a < 2 ^ 61 → nat_abs b < 2 ^ 61 → back (back a +ℤ back b) ≡ a +ℤ b
 plus_back a b h i = omega (arith, ints)
 
@@ -153,24 +156,21 @@ pub flat : (x : List ℤ) (n : ℕ) → ((u : ℕ) → 1 ≤ u → u < 8 → get
 unfolding weighed_row term cosine
 flat x n z = first_only (λ u. cosine u n *ℤ get_or x u (pos 0)) (λ u h i. ap (λ y. cosine u n *ℤ y) (z u h i) ∙ *ℤ-zero (cosine u n))
 
-pub flat_back : (x : List ℤ) (n : ℕ) (t : ℤ) → ((u : ℕ) → 1 ≤ u → u < 8 → get_or x u (pos 0) ≡ pos 0) → t ≡ term x 0 0 → nat_abs t < 2 ^ 43 → back t ≡ weighed_row x n
-flat_back x n t z e h = let plain : back t ≡ t = omega (arith, ints) in plain ∙ e ∙ sym (flat x n z)
-
--- ---- a sum that is rounded
-pub quotient_of : (d : ℕ) (x : List ℤ) (n : ℕ) (s : ℤ) → SmallRow (2 ^ 17 * d) x → n < 8 → s ≡ weighed_row x n → nat_abs s ≤ 2147483647 * d
+-- ---- a sum as the code passes it on, and rounds it
+pub quotient_of : (d : ℕ) (x : List ℤ) (n : ℕ) (s : ℤ) → s ≡ weighed_row x n → nat_abs s < 2 ^ 46 → n < 8 → SmallRow (2 ^ 17 * d) x → nat_abs (back s) ≤ 2147483647 * d
 unfolding weighed_row
-quotient_of d x n s small hn e =
+quotient_of d x n s e size hn small =
     let p = sum_small (2 ^ 17 * d) (λ u. get_or x u (pos 0)) n small hn in
-    subst (λ z. nat_abs z ≤ 2147483647 * d) (sym e) (omega arith)
+    let is : back s ≡ s = omega (arith, ints) in
+    subst (λ z. nat_abs z ≤ 2147483647 * d) (sym (is ∙ e)) (omega arith)
 
-pub quotient_is : (half d : ℕ) (x : List ℤ) (n : ℕ) (s r : ℤ) → s ≡ weighed_row x n → SFits w32 r → r ≡ floor (s +ℤ pos half) d → to_z w32 (of_z w32 r) ≡ rounded_sum x half d n
+pub quotient_is : (half d : ℕ) (x : List ℤ) (n : ℕ) (s r : ℤ) → s ≡ weighed_row x n → nat_abs s < 2 ^ 46 → SFits w32 r → r ≡ floor (back s +ℤ pos half) d → back32 r ≡ rounded_sum x half d n
 unfolding rounded_sum
-quotient_is half d x n s r e fits is = to_z-of_z fits ∙ is ∙ ap (λ z. floor (z +ℤ pos half) d) e
+quotient_is half d x n s r e size fits is =
+    let plain : back s ≡ s = omega (arith, ints) in
+    to_z-of_z fits ∙ is ∙ ap (λ z. floor (z +ℤ pos half) d) (plain ∙ e)
 
 -- ---- rows with zeros, as the code reads and writes them
-abbrev pub back32 : ℤ → ℤ
-back32 z = to_z w32 (of_z w32 z)
-
 module _ (x : List ℤ) (last : ZeroAt x 4 × ZeroAt x 5 × ZeroAt x 6 × ZeroAt x 7) where
   abbrev pub half_row : List ℤ
   half_row =

@@ -5,7 +5,7 @@ ghost use Rattle.std.specs.Prelude.{◌≡◌, ℕ, ◌+◌, ◌-◌, ◌*◌, �
 ghost use Rattle.transform.specs.Blocks.{Gives, Shows};
 ghost use Rattle.transform.specs.Factors.{cosine};
 ghost use Rattle.transform.specs.Inverse.{direct, limited, ranged, twice, two_pass};
-ghost use Rattle.transform.specs.Passes.{RowIs, Small, SmallRow, ZeroAt, after_pass, half_sum, rounded_sum, term};
+ghost use Rattle.transform.specs.Passes.{RowIs, Small, SmallRow, ZeroAt, after_pass, half_sum, rounded_sum, term, weighed_row};
 ghost use Rattle.transform.specs.Sums.{floor};
 ghost use Rattle.transform.specs.Laws.{InRange, KeepsZeros, LimitsFirst, two_pass_range, two_pass_zeros, two_pass_ends, direct_range, direct_zeros, direct_ends};
 
@@ -83,30 +83,39 @@ fn half_sum(x: &[i32; 8], first: usize, n: usize) -> i64
     term(x, first, n) + term(x, first + 2, n) + term(x, first + 4, n) + term(x, first + 6, n)
 }
 
-// The sums of a row for n and 7 - n across, rounded: the factors for odd u have their signs turned in the second.
-#[inline(always)]
-fn rounded_pair(x: &[i32; 8], n: usize, quotient: RoundedShift) -> (i32, i32)
-    requires small { SmallRow (2 ^ 17 * 2 ^ quotient.shift) x.now }
-    requires first_half { n < 4 }
-    ensures near { result.0 ≡ rounded_sum x.now quotient.half (2 ^ quotient.shift) n }
-    ensures far { result.1 ≡ rounded_sum x.now quotient.half (2 ^ quotient.shift) (7 - n) }
+// The sums of a row for n and 7 - n across: the factors for odd u have their signs turned in the second.
+fn mirrored_sums(x: &[i32; 8], n: usize) -> (i64, i64)
+    requires { n < 4 }
+    ensures near { result.0 ≡ weighed_row x.now n }
+    ensures far { result.1 ≡ weighed_row x.now (7 - n) }
+    ensures small { (unsigned_abs result.0 < 2 ^ 46) × (unsigned_abs result.1 < 2 ^ 46) }
 {
     let even = half_sum(x, 0, n);
     let odd = half_sum(x, 1, n);
-    (quotient.of(even + odd), quotient.of(even - odd))
+    (even + odd, even - odd)
 }
 
-// The sums of a row, rounded. (Inlined, so that where 0 is written into a row the products with it are left out.)
+// The sums of a row, rounded. (Inlined, so that where 0 is written into a row the products with it are left out. The pairs are rounded last: eight
+// roundings side by side run fewer instructions.)
 #[inline(always)]
 fn whole_row(x: &[i32; 8], quotient: RoundedShift) -> [i32; 8]
     requires small { SmallRow (2 ^ 17 * 2 ^ quotient.shift) x.now }
     ensures { RowIs result (rounded_sum x.now quotient.half (2 ^ quotient.shift)) }
 {
-    let (a, h) = rounded_pair(x, 0, quotient);
-    let (b, g) = rounded_pair(x, 1, quotient);
-    let (c, f) = rounded_pair(x, 2, quotient);
-    let (d, e) = rounded_pair(x, 3, quotient);
-    [a, b, c, d, e, f, g, h]
+    let (a, h) = mirrored_sums(x, 0);
+    let (b, g) = mirrored_sums(x, 1);
+    let (c, f) = mirrored_sums(x, 2);
+    let (d, e) = mirrored_sums(x, 3);
+    [
+        quotient.of(a),
+        quotient.of(b),
+        quotient.of(c),
+        quotient.of(d),
+        quotient.of(e),
+        quotient.of(f),
+        quotient.of(g),
+        quotient.of(h),
+    ]
 }
 
 // Whether the second half of a row is 0.
