@@ -17,6 +17,10 @@ by_side P p a b = at (eqb p 0)
     at true = a
     at false = b
 
+-- the macroblock that a coordinate lies in is one of those whose samples begin before it and end after it
+pub between : (q a b u : ℕ) → a * side q ≤ u → u < b * side q → (a ≤ u / side q) × (u / side q < b)
+between q a b u = by_side (λ s. a * s ≤ u → u < b * s → (a ≤ u / s) × (u / s < b)) q (λ h i. (omega arith, omega arith)) (λ h i. (omega arith, omega arith))
+
 -- turning
 pub turned_inside : (w h p x y : ℕ) → inside w h p x y ≡ inside h w p y x
 unfolding inside

@@ -4,7 +4,7 @@ use Rattle.std.proofs.lemmas.Bool.{and_from, both_ways, le-leb, lt-ltb}
 use Rattle.pictures.specs.Pictures.{Picture, covers, has, painted, side}
 use Rattle.pictures.specs.declared.layouts.Segment.{Segment}
 use Rattle.deblocking.specs.Edges.{Local, SameMarks, across_of, down_of, edge, role, first, deblocked_at, mark_at, quantizer_at, edges_in, filtered, filtered_over, turn, turn_segment}
-use Rattle.deblocking.proofs.Edges.{by_side, inside_says, deblocked_same, unpainted}
+use Rattle.deblocking.proofs.Edges.{between, by_side, inside_says, deblocked_same, unpainted}
 
 -- all four samples of an edge inside a segment are the segment's
 rows_covered : (q a b n j : ℕ) → a * side q < n * 8 → n * 8 < b * side q → j < 4 → (a * side q ≤ first n + j) × (first n + j < b * side q)
@@ -77,9 +77,6 @@ same_over k l s f g w h same-k q same u v c = at (has f q u v) refl (edges_in s 
         simp (e, e', d) z
 
 -- both macroblocks at an edge inside a segment are the segment's
-between : (q a b u : ℕ) → a * side q ≤ u → u < b * side q → (a ≤ u / side q) × (u / side q < b)
-between q a b u = by_side (λ s. a * s ≤ u → u < b * s → (a ≤ u / s) × (u / s < b)) q (λ h i. (omega arith, omega arith)) (λ h i. (omega arith, omega arith))
-
 before : (q a n : ℕ) → a * side q < n * 8 → a * side q ≤ n * 8 - 1
 before q a n h = omega (arith, h)
 

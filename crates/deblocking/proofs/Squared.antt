@@ -18,9 +18,19 @@ abbrev corner : ℕ → ℕ
 corner n = n * 8 - 4
 
 -- what a place of a square says of its numbers
-of_square : (p x y q u v : ℕ) → square_at p x y q u v ≡ true → (p ≡ q) × (x ≤ u) × (u < x + 8) × (y ≤ v) × (v < y + 8)
+pub of_square : (p x y q u v : ℕ) → square_at p x y q u v ≡ true → (p ≡ q) × (x ≤ u) × (u < x + 8) × (y ≤ v) × (v < y + 8)
 unfolding square_at
 of_square p x y q u v e = (grind (arith, nat_tests), grind (arith, nat_tests), grind (arith, nat_tests), grind (arith, nat_tests), grind (arith, nat_tests))
+
+-- and what each of a square's values is told to be by its number is so at each of its places
+pub square_value : (sample : ℕ → ℕ → ℕ → ℕ) (p x y : ℕ) (values : List ℕ) (q u v : ℕ) → square_at p x y q u v ≡ true
+    → ((k : ℕ) → k < 64 → get_or values k 0 ≡ sample p (x + k % 8) (y + k / 8)) → get_or values (8 * (v - y) + (u - x)) 0 ≡ sample q u v
+square_value sample p x y values q u v e each =
+    let w = of_square p x y q u v e in
+    let k = 8 * (v - y) + (u - x) in
+    let across : x + k % 8 ≡ u = omega (arith, w.1, w.2, w.3) in
+    let down : y + k / 8 ≡ v = omega (arith, w.1, w.2, w.3) in
+    each k (omega (arith, w.1, w.2, w.3, w.4)) ∙ ap (λ m. sample m (x + k % 8) (y + k / 8)) w.0 ∙ ap (λ m. sample q m (y + k / 8)) across ∙ ap (sample q u) down
 
 edge_places : (p x n q u v : ℕ) → 1 ≤ n → edges p x (x + 8) n (n + 1) q u v ≡ (square_at p x (corner n) q u v && next_to (v - corner n))
 unfolding edges square_at
@@ -54,14 +64,7 @@ same_square : (f : Picture) (p x y : ℕ) (values : List ℕ) → Square f p x y
 same_square f p x y values is = same_picture _ _ refl refl (λ q u v. at q u v (has f q u v) refl (square_at p x y q u v) refl)
   where
     at : (q u v : ℕ) (b : Bool) → has f q u v ≡ b → (d : Bool) → square_at p x y q u v ≡ d → f.sample q u v ≡ (painted_square f p x y values).sample q u v
-    at q u v true e true d =
-        let w = of_square p x y q u v d in
-        let k = 8 * (v - y) + (u - x) in
-        let across : x + k % 8 ≡ u = omega (arith, w.1, w.2, w.3) in
-        let down : y + k / 8 ≡ v = omega (arith, w.1, w.2, w.3) in
-        let z : get_or values k 0 ≡ f.sample q u v
-        = is k (omega (arith, w.1, w.2, w.3, w.4)) ∙ ap (λ m. f.sample m (x + k % 8) (y + k / 8)) w.0 ∙ ap (λ m. f.sample q m (y + k / 8)) across ∙ ap (f.sample q u) down in
-        simp (e, d) (sym z)
+    at q u v true e true d = simp (e, d) (sym (square_value f.sample p x y values q u v d is))
     at q u v true e false d = simp (e, d)
     at q u v false e d o = simp e
 

@@ -1,5 +1,5 @@
 -- The cells of a segment in a table of the whole picture.
-use Rattle.std.proofs.Common.{◌≡◌, ℕ, zero, suc, ◌+◌, ◌-◌, ◌*◌, ◌/◌, ◌<◌, ◌≤◌, true, ltb, leb, List, ◌++◌, length, get_or, take, drop, ℤ, Ok, sym, refl, ap, ◌∙◌, mul_comm, add-mul, arith}
+use Rattle.std.proofs.Common.{◌≡◌, ℕ, ◌+◌, ◌-◌, ◌*◌, ◌/◌, ◌<◌, ◌≤◌, true, List, ◌++◌, length, get_or, take, drop, ℤ, Ok, sym, refl, ap, ◌∙◌, mul_comm, add-mul, arith}
 use Rattle.std.proofs.lemmas.Nat.{mul-add-lt}
 use Rattle.std.proofs.lemmas.List.{drop_at, get_or_append_left, length-take-le}
 use Rattle.std.proofs.lemmas.Bool.Decides.{nat_tests}
@@ -10,6 +10,7 @@ use Rattle.motion.specs.declared.vectors.Vector.{Vector}
 use Rattle.motion.specs.Vectors.{zero_vector}
 use Rattle.pictures.specs.declared.layouts.Segment.{Segment}
 use Rattle.pictures.specs.Pictures.{covers, side}
+use Rattle.deblocking.proofs.Edges.{between}
 use Rattle.rebuild.specs.Rebuilt.{count_of, delivery_records, set_from}
 use Rattle.rebuild.specs.Segments.{cell_at, samples_by}
 
@@ -27,21 +28,22 @@ pub set_cells_at : {X : Type 0} (first : ℕ) (cells table : List X) (d : X) (i 
 set_cells_at first cells table d i h l =
     ap (λ xs. get_or xs i d) (drop_at (take first table) (cells ++ drop (length cells) (drop first table)) first (length-take-le first table h)) ∙ get_or_append_left cells (drop (length cells) (drop first table)) d i l
 
--- a place of a segment has one of its cells
-in_columns : (left right q u : ℕ) → leb (left * side q) u ≡ true → ltb u (right * side q) ≡ true → u / side q - left < right - left
-in_columns left right zero u e f = grind (arith, nat_tests)
-in_columns left right (suc q) u e f = grind (arith, nat_tests)
-
-covers_parts : (s : Segment) (q u v : ℕ) → covers s q u v ≡ true → (u / side q - s.left < s.right - s.left) × (v / side q - s.top < s.bottom - s.top)
+-- the macroblock of a place of a segment is one of the segment's
+pub macroblock_inside : (s : Segment) (q u v : ℕ) → covers s q u v ≡ true → (s.left ≤ u / side q) × (u / side q < s.right) × (s.top ≤ v / side q) × (v / side q < s.bottom)
 unfolding covers
-covers_parts s q u v e =
-    (in_columns s.left s.right q u (grind (arith, nat_tests)) (grind (arith, nat_tests)), in_columns s.top s.bottom q v (grind (arith, nat_tests)) (grind (arith, nat_tests)))
+macroblock_inside s q u v e =
+    let x = between q s.left s.right u (grind (arith, nat_tests)) (grind (arith, nat_tests)) in
+    let y = between q s.top s.bottom v (grind (arith, nat_tests)) (grind (arith, nat_tests)) in
+    (x.0, x.1, y.0, y.1)
 
+-- and so has one of its cells
 pub cell_below : (s : Segment) (q u v : ℕ) → covers s q u v ≡ true → cell_at s q u v < count_of s
 unfolding cell_at
 cell_below s q u v e =
-    let p = covers_parts s q u v e in
-    omega (arith, mul-add-lt (v / side q - s.top) (s.right - s.left) (u / side q - s.left) (s.bottom - s.top) p.1 p.0, mul_comm (s.bottom - s.top) (s.right - s.left))
+    let m = macroblock_inside s q u v e in
+    let across : u / side q - s.left < s.right - s.left = omega (arith, m.0, m.1) in
+    let down : v / side q - s.top < s.bottom - s.top = omega (arith, m.2, m.3) in
+    omega (arith, mul-add-lt (v / side q - s.top) (s.right - s.left) (u / side q - s.left) (s.bottom - s.top) down across, mul_comm (s.bottom - s.top) (s.right - s.left))
 
 -- samples by equal vectors
 pub same_vectors : (meaning : List ℤ → ℕ → ℕ → ℤ) (s : Segment) (rounding : ℕ) (picture : ℕ → ℕ → ℕ → ℕ) (records : List Macroblock) (xs ys : List Vector) (q u v : ℕ)

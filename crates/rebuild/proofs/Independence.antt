@@ -1,7 +1,6 @@
 -- A segment is rebuilt from its own places of the finished picture, and from none where all its macroblocks are INTRA.
-use Rattle.std.proofs.Common.{◌≡◌, ℕ, zero, suc, ◌*◌, ◌<◌, ◌≤◌, true, List, ℤ, pos, negsuc, Some, None, Option, refl, ap, arith}
+use Rattle.std.proofs.Common.{◌≡◌, ℕ, ◌*◌, ◌<◌, ◌≤◌, true, List, ℤ, pos, negsuc, Some, None, Option, refl, ap, arith}
 use Rattle.std.proofs.lemmas.Bool.{le-leb, lt-ltb}
-use Rattle.std.proofs.lemmas.Bool.Decides.{nat_tests}
 use Rattle.records.specs.declared.types.Macroblock.{Macroblock}
 use Rattle.records.specs.declared.types.Macroblock.TheVariants.{Skipped, Inter, Intra}
 use Rattle.records.specs.Deliveries.{intra_at, is_intra}
@@ -11,6 +10,7 @@ use Rattle.pictures.specs.declared.layouts.Segment.{Segment}
 use Rattle.pictures.specs.Pictures.{Picture, covers, side}
 use Rattle.prediction.specs.Window.{brought_inside, prediction_at, window}
 use Rattle.deblocking.specs.Edges.{filtered}
+use Rattle.deblocking.proofs.Edges.{by_side}
 use Rattle.rebuild.specs.Blocks.{predicted_from}
 use Rattle.rebuild.specs.Laws.{Independent}
 use Rattle.rebuild.specs.Macroblocks.{coded_sample, macroblock_sample, source_for}
@@ -26,8 +26,7 @@ held_in low high (pos n) h = (grind arith, grind arith)
 held_in low high (negsuc n) h = (omega arith, omega arith)
 
 times_side : (a b q : ℕ) → a < b → a * side q < b * side q
-times_side a b zero h = omega arith
-times_side a b (suc q) h = let z : side (suc q) ≡ 8 = grind (arith, nat_tests) in rw z (omega arith)
+times_side a b q = by_side (λ s. a < b → a * s < b * s) q (λ h. omega arith) (λ h. omega arith)
 
 module _ (s : Segment) (wide : s.left < s.right) (high : s.top < s.bottom) where
   -- so a window shows the segment's places only

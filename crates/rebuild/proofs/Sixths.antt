@@ -1,21 +1,22 @@
 -- The places of a macroblock, block by block.
-use Rattle.std.proofs.Common.{◌≡◌, ℕ, zero, suc, ◌+◌, ◌*◌, ◌%◌, ◌<◌, ◌≤◌, Bool, true, false, ◌&&◌, ◌||◌, eqb, ltb, List, Option, get_or, ℤ, pos, refl, arith}
-use Rattle.std.proofs.Math.Bool.{and-false}
+use Rattle.std.proofs.Common.{◌≡◌, ℕ, zero, suc, ◌+◌, ◌*◌, ◌%◌, ◌<◌, ◌≤◌, Bool, true, false, ◌&&◌, ◌||◌, eqb, ltb, List, Option, get_or, ℤ, pos, refl, subst, ⊎_elim, arith}
+use Rattle.std.proofs.Math.Bool.{and-false, and-true}
+use Rattle.std.proofs.lemmas.Bool.{cases_eq, lt-ltb}
 use Rattle.records.specs.declared.types.Macroblock.{Macroblock}
 use Rattle.records.specs.declared.types.Macroblock.TheVariants.{Skipped, Inter, Intra}
 use Rattle.motion.specs.declared.vectors.Vector.{Vector}
 use Rattle.pictures.specs.declared.layouts.Segment.{Segment}
 use Rattle.std.proofs.lemmas.Bool.Decides.{nat_tests}
-use Rattle.pictures.specs.Pictures.{Picture, covers, has, inside, painted}
-use Rattle.pictures.proofs.Painting.{same_picture}
-use Rattle.rebuild.specs.Blocks.{block_at, summed}
-use Rattle.rebuild.specs.Macroblocks.{block_of, left_in, macroblock_at, coded_sample, macroblock_sample, plane_of, residual_of, segment_of_one, source_for, top_in}
+use Rattle.pictures.specs.Pictures.{Picture, covers, has, inside, painted, square_at}
+use Rattle.pictures.proofs.Painting.{alike, both, none, same_picture}
+use Rattle.rebuild.specs.Blocks.{summed}
+use Rattle.rebuild.specs.Macroblocks.{block_of, left_in, coded_sample, macroblock_sample, plane_of, residual_of, segment_of_one, source_for, top_in}
 
 -- the places of a macroblock in its blocks before block b
 unfoldable pub macroblock_up_to : ℕ → ℕ → ℕ → ℕ → ℕ → ℕ → Bool
-macroblock_up_to column row b q u v = macroblock_at column row q u v && ltb (block_of q u v) b
+macroblock_up_to column row b q u v = covers (segment_of_one column row) q u v && ltb (block_of q u v) b
 
-pub blocks_none : (column row q u v : ℕ) → macroblock_up_to column row 0 q u v ≡ false
+blocks_none : (column row q u v : ℕ) → macroblock_up_to column row 0 q u v ≡ false
 unfolding macroblock_up_to
 blocks_none column row q u v = grind (arith, nat_tests)
 
@@ -27,44 +28,44 @@ apart false b q h = refl
 -- so it is set with block b only where that is its plane's
 abbrev More : ℕ → ℕ → ℕ → ℕ → ℕ → ℕ → Type 0
 More column row b q u v =
-    macroblock_up_to column row (b + 1) q u v ≡ (block_at (plane_of b) (left_in column b) (top_in row b) q u v || macroblock_up_to column row b q u v)
+    macroblock_up_to column row (b + 1) q u v ≡ (square_at (plane_of b) (left_in column b) (top_in row b) q u v || macroblock_up_to column row b q u v)
 
 elsewhere : (column row b q u v : ℕ) → 0 < q → (q + 3 ≡ b → ⊥) → eqb (plane_of b) q ≡ false → More column row b q u v
-unfolding macroblock_up_to block_at block_of
+unfolding macroblock_up_to square_at block_of
 elsewhere column row b q u v p h e =
     let z : eqb q 0 ≡ false = grind (arith, nat_tests) in
-    simp (e, z) (apart (macroblock_at column row q u v) b q h)
+    simp (e, z) (apart (covers (segment_of_one column row) q u v) b q h)
+
+-- and there all of its macroblock comes with that block
+own_plane : (column row q u v : ℕ) → More column row (q + 4) (suc q) u v
+unfolding macroblock_up_to covers square_at block_of
+own_plane column row q u v = grind (arith, nat_tests)
 
 -- the places of block b come next
-pub blocks_more : (column row b q u v : ℕ) → b < 6 → More column row b q u v
-unfolding macroblock_up_to macroblock_at block_at block_of
+blocks_more : (column row b q u v : ℕ) → b < 6 → More column row b q u v
+unfolding macroblock_up_to covers square_at block_of
 blocks_more column row zero zero u v h = grind (arith, nat_tests)
 blocks_more column row (suc zero) zero u v h = grind (arith, nat_tests)
 blocks_more column row (suc (suc zero)) zero u v h = grind (arith, nat_tests)
 blocks_more column row (suc (suc (suc zero))) zero u v h = grind (arith, nat_tests)
-blocks_more column row (suc (suc (suc (suc zero)))) zero u v h = grind (arith, nat_tests)
-blocks_more column row (suc (suc (suc (suc (suc zero))))) zero u v h = grind (arith, nat_tests)
-blocks_more column row (suc (suc (suc (suc zero)))) (suc zero) u v h = grind (arith, nat_tests)
-blocks_more column row (suc (suc (suc (suc (suc zero))))) (suc (suc zero)) u v h = grind (arith, nat_tests)
-blocks_more column row zero (suc q) u v h = elsewhere column row 0 (suc q) u v (omega arith) (λ e. omega (arith, e)) (grind (arith, nat_tests))
-blocks_more column row (suc zero) (suc q) u v h = elsewhere column row 1 (suc q) u v (omega arith) (λ e. omega (arith, e)) (grind (arith, nat_tests))
-blocks_more column row (suc (suc zero)) (suc q) u v h = elsewhere column row 2 (suc q) u v (omega arith) (λ e. omega (arith, e)) (grind (arith, nat_tests))
-blocks_more column row (suc (suc (suc zero))) (suc q) u v h = elsewhere column row 3 (suc q) u v (omega arith) (λ e. omega (arith, e)) (grind (arith, nat_tests))
-blocks_more column row (suc (suc (suc (suc zero)))) (suc (suc q)) u v h = elsewhere column row 4 (suc (suc q)) u v (omega arith) (λ e. omega (arith, e)) (grind (arith, nat_tests))
-blocks_more column row (suc (suc (suc (suc (suc zero))))) (suc zero) u v h = elsewhere column row 5 (suc zero) u v (omega arith) (λ e. omega (arith, e)) (grind (arith, nat_tests))
-blocks_more column row (suc (suc (suc (suc (suc zero))))) (suc (suc (suc q))) u v h = elsewhere column row 5 (suc (suc (suc q))) u v (omega arith) (λ e. omega (arith, e)) (grind (arith, nat_tests))
-blocks_more column row (suc (suc (suc (suc (suc (suc b)))))) q u v h = absurd (omega arith)
+blocks_more column row (suc (suc (suc (suc b)))) zero u v h = grind (arith, nat_tests)
+blocks_more column row b (suc q) u v h =
+    ⊎_elim (λ (e : q + 4 ≡ b). let P : ℕ → Type 0 = λ n. More column row n (suc q) u v in subst P e (own_plane column row q u v))
+    (λ (n : q + 4 ≡ b → ⊥). elsewhere column row b (suc q) u v (omega arith) (λ e. n (omega (arith, e))) (grind (arith, nat_tests))) (cases_eq (q + 4) b)
 
-pub blocks_all : (column row b q u v : ℕ) → 6 ≤ b → macroblock_up_to column row b q u v ≡ macroblock_at column row q u v
-unfolding macroblock_up_to macroblock_at block_of
-blocks_all column row b zero u v h = grind (arith, nat_tests)
-blocks_all column row b (suc zero) u v h = grind (arith, nat_tests)
-blocks_all column row b (suc (suc zero)) u v h = grind (arith, nat_tests)
-blocks_all column row b (suc (suc (suc q))) u v h = grind (arith, nat_tests)
+-- every place of a picture is in one of six blocks
+six : (q u v wide high : ℕ) → inside wide high q u v ≡ true → block_of q u v < 6
+unfolding block_of inside
+six zero u v wide high e = grind (arith, nat_tests)
+six (suc q) u v wide high e = grind (arith, nat_tests)
+
+blocks_all : (column row b q u v wide high : ℕ) → 6 ≤ b → inside wide high q u v ≡ true → macroblock_up_to column row b q u v ≡ covers (segment_of_one column row) q u v
+unfolding macroblock_up_to
+blocks_all column row b q u v wide high h e = rw (lt-ltb (block_of q u v) b (omega (arith, six q u v wide high e))) (and-true _)
 
 -- a place of a block is in its plane, and the block is the one that the place belongs to
-pub in_block : (column row b q u v : ℕ) → b < 6 → block_at (plane_of b) (left_in column b) (top_in row b) q u v ≡ true → (q ≡ plane_of b) × (block_of q u v ≡ b)
-unfolding block_at block_of
+pub in_block : (column row b q u v : ℕ) → b < 6 → square_at (plane_of b) (left_in column b) (top_in row b) q u v ≡ true → (q ≡ plane_of b) × (block_of q u v ≡ b)
+unfolding square_at block_of
 in_block column row zero q u v h e = (grind (arith, nat_tests), grind (arith, nat_tests))
 in_block column row (suc zero) q u v h e = (grind (arith, nat_tests), grind (arith, nat_tests))
 in_block column row (suc (suc zero)) q u v h e = (grind (arith, nat_tests), grind (arith, nat_tests))
@@ -80,18 +81,24 @@ agreeing places new new' f same = same_picture _ _ refl refl (λ q u v. at q u v
     at q u v true e = simp (e, same q u v e)
     at q u v false e = simp (e, and-false (has f q u v))
 
+-- a macroblock is painted block by block: f₁ is f with the blocks before b, and f₂ what block b makes of it
+module _ (column row : ℕ) (new : ℕ → ℕ → ℕ → ℕ) (f : Picture) where
+  pub no_block_painted : f ≡ painted (macroblock_up_to column row 0) new f
+  no_block_painted = none _ new f (blocks_none column row)
+
+  pub block_painted : (b : ℕ) (f₁ f₂ : Picture) → b < 6 → f₁ ≡ painted (macroblock_up_to column row b) new f
+      → f₂ ≡ painted (square_at (plane_of b) (left_in column b) (top_in row b)) new f₁ → f₂ ≡ painted (macroblock_up_to column row (b + 1)) new f
+  block_painted b f₁ f₂ h was now = both _ _ (macroblock_up_to column row (b + 1)) new f f₁ f₂ was now (λ q u v. blocks_more column row b q u v h)
+
+  pub all_painted : (b : ℕ) → 6 ≤ b → painted (macroblock_up_to column row b) new f ≡ painted (covers (segment_of_one column row)) new f
+  all_painted b h = alike _ _ new f (λ q u v e. blocks_all column row b q u v f.wide f.high h e)
+
 -- a block's samples are the macroblock's
 pub block_samples : (meaning : List ℤ → ℕ → ℕ → ℤ) (s : Segment) (rounding : ℕ) (picture : ℕ → ℕ → ℕ → ℕ) (m : Macroblock) (vector : Vector) (source : Option Vector) (residual : List ℤ) (p b q u v : ℕ)
     → source ≡ source_for m vector p → q ≡ p → block_of q u v ≡ b → get_or residual (8 * (v % 8) + u % 8) (pos 0) ≡ residual_of meaning m b (u % 8) (v % 8)
     → summed s rounding picture source residual q u v ≡ coded_sample meaning s rounding picture m vector q u v
 unfolding summed coded_sample
 block_samples meaning s rounding picture m vector source residual p b q u v e f g h = rw (g, ← h, e, f) refl
-
--- a macroblock is a rectangle of one
-pub one_covered : (column row q u v : ℕ) (f : Picture) → has f q u v ≡ true → covers (segment_of_one column row) q u v ≡ macroblock_at column row q u v
-unfolding covers macroblock_at inside
-one_covered column row zero u v f h = grind (arith, nat_tests)
-one_covered column row (suc q) u v f h = grind (arith, nat_tests)
 
 -- a skipped macroblock's samples, and a coded one's
 module _ (meaning : List ℤ → ℕ → ℕ → ℤ) (s : Segment) (rounding : ℕ) (picture : ℕ → ℕ → ℕ → ℕ) (vector : Vector) (q u v : ℕ) where

@@ -1,5 +1,5 @@
 -- A block of 8 by 8 samples of a plane: each is the sum of a prediction and a residual, brought into 0 to 255. Assumes nothing.
-use Rattle.std.specs.Prelude.{ℕ, ◌+◌, ◌*◌, ◌%◌, Bool, ◌&&◌, List, [], ℤ, Some, None, Option, pos, ◌+ℤ◌, ◌==◌, nat_le, nat_lt, slice_index_or}
+use Rattle.std.specs.Prelude.{ℕ, ◌+◌, ◌*◌, ◌%◌, List, [], ℤ, Some, None, Option, pos, ◌+ℤ◌, slice_index_or}
 use Rattle.motion.specs.declared.vectors.Vector.{Vector}
 use Rattle.pictures.specs.declared.layouts.Segment.{Segment}
 use Rattle.prediction.specs.Window.{prediction_at}
@@ -14,10 +14,6 @@ predicted_from s rounding picture (Some vector) p x y = prediction_at s rounding
 abbrev pub values_of : Option (List ℤ) → List ℤ
 values_of (Some residual) = residual
 values_of None = []
-
--- the places of the block whose first sample is at left and top
-unfoldable pub block_at : ℕ → ℕ → ℕ → ℕ → ℕ → ℕ → Bool
-block_at p left top q u v = p == q && (nat_le left u && (nat_lt u (left + 8) && (nat_le top v && nat_lt v (top + 8))))
 
 -- the samples of a block: residuals stand at 8 * down + across
 unfoldable pub summed : Segment → ℕ → (ℕ → ℕ → ℕ → ℕ) → Option Vector → List ℤ → ℕ → ℕ → ℕ → ℕ

@@ -1,12 +1,11 @@
 -- The samples of a macroblock, in all planes. Assumes nothing.
-use Rattle.std.specs.Prelude.{ℕ, ◌+◌, ◌-◌, ◌*◌, ◌/◌, ◌%◌, Bool, cond, ◌&&◌, List, [], ℤ, pos, ◌+ℤ◌, Some, None, Option, ◌==◌, nat_le, nat_lt, slice_index_or}
+use Rattle.std.specs.Prelude.{ℕ, ◌+◌, ◌-◌, ◌*◌, ◌/◌, ◌%◌, cond, List, [], ℤ, pos, ◌+ℤ◌, Some, None, Option, ◌==◌, nat_lt, slice_index_or}
 use Rattle.records.specs.declared.types.Block.{Block}
 use Rattle.records.specs.declared.types.Macroblock.{Macroblock}
 use Rattle.records.specs.declared.types.Macroblock.TheVariants.{Skipped, Inter, Intra}
 use Rattle.records.specs.Blocks.{coded_in}
 use Rattle.motion.specs.declared.vectors.Vector.{Vector}
 use Rattle.pictures.specs.declared.layouts.Segment.{Segment}
-use Rattle.pictures.specs.Pictures.{side}
 use Rattle.samples.specs.Clipping.{clipped}
 use Rattle.samples.specs.Vectors.{chroma_of}
 use Rattle.transform.specs.Coefficients.{block_coefficients}
@@ -15,11 +14,6 @@ use Rattle.rebuild.specs.Blocks.{predicted_from}
 -- a macroblock as a segment of one
 abbrev pub segment_of_one : ℕ → ℕ → Segment
 segment_of_one column row = record { left = column; right = column + 1; top = row; bottom = row + 1 }
-
--- the places of the macroblock in a column and a row, in all planes
-unfoldable pub macroblock_at : ℕ → ℕ → ℕ → ℕ → ℕ → Bool
-macroblock_at column row q u v =
-    nat_lt q 3 && (nat_le (column * side q) u && (nat_lt u (column * side q + side q) && (nat_le (row * side q) v && nat_lt v (row * side q + side q))))
 
 -- the block that a place belongs to: blocks 0 to 3 are luma in raster order, 4 is Cb and 5 is Cr
 unfoldable pub block_of : ℕ → ℕ → ℕ → ℕ

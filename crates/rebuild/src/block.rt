@@ -1,8 +1,8 @@
 // Rebuilding a block.
 ghost use Rattle.std.specs.Prelude.{◌≡◌, ℕ, ◌+◌, ◌/◌, ◌%◌, ◌<◌, pos, ◌+ℤ◌, slice_index, slice_index_or};
-ghost use Rattle.pictures.specs.Pictures.{painted};
+ghost use Rattle.pictures.specs.Pictures.{painted, square_at};
 ghost use Rattle.samples.specs.Clipping.{clipped};
-ghost use Rattle.rebuild.specs.Blocks.{block_at, values_of};
+ghost use Rattle.rebuild.specs.Blocks.{values_of};
 ghost use Rattle.rebuild.specs.Rebuilders.{predicted_in, summed_in};
 
 use crate::places::BlockPlace;
@@ -45,7 +45,7 @@ pub fn rebuild_block<S: Store>(
     place: BlockPlace,
     residual: &Option<[i16; 64]>,
 )
-    ensures { S.picture working.new ≡ painted (block_at place.plane place.left place.top) (summed_in S.picture window.now source (values_of residual.now)) (S.picture working.old) }
+    ensures { S.picture working.new ≡ painted (square_at place.plane place.left place.top) (summed_in S.picture window.now source (values_of residual.now)) (S.picture working.old) }
 {
     let sums = sums_of(predicted_block(window, source, place), residual);
     let BlockPlace { plane, left, top } = place;
@@ -54,7 +54,7 @@ pub fn rebuild_block<S: Store>(
 
 // Copies the samples of the block at a place, and no others.
 pub fn copy_block<S: Store>(finished: &S, working: &mut S, place: BlockPlace)
-    ensures { S.picture working.new ≡ painted (block_at place.plane place.left place.top) (S.picture finished.now).sample (S.picture working.old) }
+    ensures { S.picture working.new ≡ painted (square_at place.plane place.left place.top) (S.picture finished.now).sample (S.picture working.old) }
 {
     let BlockPlace { plane, left, top } = place;
     let samples = finished.read_square(plane, left, top);

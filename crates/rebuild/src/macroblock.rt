@@ -1,8 +1,8 @@
 // Rebuilding a macroblock.
 ghost use Rattle.std.specs.Prelude.{◌≡◌, ℕ, ◌+◌, ◌*◌, ◌%◌, ◌<◌, ◌≤◌, List, ℤ, pos, slice_index_or};
-ghost use Rattle.pictures.specs.Pictures.{painted};
+ghost use Rattle.pictures.specs.Pictures.{covers, painted};
 ghost use Rattle.rebuild.specs.Blocks.{values_of};
-ghost use Rattle.rebuild.specs.Macroblocks.{coefficients_of, component_for, macroblock_at, residual_of, source_for};
+ghost use Rattle.rebuild.specs.Macroblocks.{coefficients_of, component_for, residual_of, segment_of_one, source_for};
 ghost use Rattle.rebuild.specs.Rebuilders.{coded_sample_by, macroblock_sample_by};
 
 use crate::block::{copy_block, rebuild_block};
@@ -41,7 +41,7 @@ fn source_for(macroblock: &Macroblock, vector: Vector, plane: u8) -> Option<Vect
 
 // Copies the samples of the macroblock at a place, and no others: at once where the store has them together, and else block by block.
 fn copy_macroblock<S: Store>(finished: &S, working: &mut S, place: MacroblockPlace)
-    ensures { S.picture working.new ≡ painted (macroblock_at place.column place.row) (S.picture finished.now).sample (S.picture working.old) }
+    ensures { S.picture working.new ≡ painted (covers (segment_of_one place.column place.row)) (S.picture finished.now).sample (S.picture working.old) }
 {
     if working.copy_together(finished, place.segment()) {
         return;
@@ -50,7 +50,7 @@ fn copy_macroblock<S: Store>(finished: &S, working: &mut S, place: MacroblockPla
 }
 
 fn copy_blocks<S: Store>(finished: &S, working: &mut S, place: MacroblockPlace)
-    ensures { S.picture working.new ≡ painted (macroblock_at place.column place.row) (S.picture finished.now).sample (S.picture working.old) }
+    ensures { S.picture working.new ≡ painted (covers (segment_of_one place.column place.row)) (S.picture finished.now).sample (S.picture working.old) }
 {
     for block in 0..6 {
         copy_block(finished, working, place.block(block));
@@ -96,7 +96,7 @@ impl<S: Store, T: Transform> Rebuilder<'_, '_, S, T> {
         macroblock: &Macroblock,
         vector: Vector,
     )
-        ensures { S.picture working.new ≡ painted (macroblock_at place.column place.row) (coded_sample_by S.picture T.meaning self.now macroblock.now vector) (S.picture working.old) }
+        ensures { S.picture working.new ≡ painted (covers (segment_of_one place.column place.row)) (coded_sample_by S.picture T.meaning self.now macroblock.now vector) (S.picture working.old) }
     {
         for block in 0..6 {
             let at = place.block(block);
@@ -114,7 +114,7 @@ impl<S: Store, T: Transform> Rebuilder<'_, '_, S, T> {
         macroblock: &Macroblock,
         vector: Vector,
     )
-        ensures { S.picture working.new ≡ painted (macroblock_at place.column place.row) (macroblock_sample_by S.picture T.meaning self.now macroblock.now vector) (S.picture working.old) }
+        ensures { S.picture working.new ≡ painted (covers (segment_of_one place.column place.row)) (macroblock_sample_by S.picture T.meaning self.now macroblock.now vector) (S.picture working.old) }
     {
         match macroblock {
             Macroblock::Skipped => copy_macroblock(self.window.finished, working, place),

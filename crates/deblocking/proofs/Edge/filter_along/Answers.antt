@@ -1,8 +1,8 @@
-use Rattle.std.proofs.Common.{◌≡◌, ℕ, ◌+◌, ◌*◌, ◌/◌, ◌<◌, ◌≤◌, max, sym, ap, ◌∙◌, arith}
+use Rattle.std.proofs.Common.{◌≡◌, ℕ, ◌+◌, ◌*◌, ◌/◌, ◌≤◌, max, sym, ap, ◌∙◌, arith}
 use Rattle.pictures.specs.Pictures.{side}
 use Rattle.pictures.proofs.Painting.{none, alike}
 use Rattle.deblocking.specs.Edges.{edge, edge_mark, edges, quantizer_at, is_vertical, turn}
-use Rattle.deblocking.proofs.Edges.{then_deblocked, none_along, more_along, apart_along, until_along, says, by_side}
+use Rattle.deblocking.proofs.Edges.{then_deblocked, none_along, more_along, apart_along, until_along, says, between, by_side}
 use Rattle.deblocking.proofs.Edge.filter_along.Goals as goal
 
 -- macroblocks and the samples along them
@@ -11,9 +11,6 @@ up p a b h = by_side (λ s. a * s ≤ b * s) p (omega arith) (omega arith)
 
 up_max : (p a b n : ℕ) → n ≤ max a b → n * side p ≤ max (a * side p) (b * side p)
 up_max p a b n h = by_side (λ s. n * s ≤ max (a * s) (b * s)) p (omega arith) (omega arith)
-
-whose : (p n u : ℕ) → n * side p ≤ u → u < (n + 1) * side p → u / side p ≡ n
-whose p n u = by_side (λ s. n * s ≤ u → u < (n + 1) * s → u / s ≡ n) p (λ h i. omega arith) (λ h i. omega arith)
 
 pub loop-along-init : goal.loop-along-init
 loop-along-init g c = (none _ _ _ (none_along _ _ _ _), omega arith)
@@ -32,7 +29,8 @@ loop-along-preserved g c =
           (λ q u v. more_along p low (x * side p) ((x + 1) * side p) n (n + 1) q u v (up p _ _ c.loop-along.auto.along) (up p x (x + 1) (omega arith)))
           (λ q u v j e m. apart_along p low (x * side p) ((x + 1) * side p) n q u v j e m)
           (λ q u v e. let w = says p (x * side p) ((x + 1) * side p) n q u v e in
-          let there : u / side p ≡ x = whose p x u w.1 w.2 in (
+          let b = between p x (x + 1) u w.1 w.2 in
+          let there : u / side p ≡ x = omega (arith, b.0, b.1) in (
             w.3,
             omega (arith, w.4),
             c.mark-mark.ensures

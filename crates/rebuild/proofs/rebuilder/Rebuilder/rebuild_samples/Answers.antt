@@ -1,18 +1,19 @@
 use Rattle.std.proofs.Common.{◌≡◌, ◌+◌, ◌-◌, ◌*◌, drop, sym, refl, ap, ◌∙◌, zero-mul, arith}
 use Rattle.std.proofs.lemmas.List.{drop-drop}
 use Rattle.records.specs.Again.{records_of}
-use Rattle.pictures.proofs.Painting.{alike, both, none}
+use Rattle.pictures.specs.Pictures.{covers}
+use Rattle.pictures.proofs.Painting.{both, none}
 use Rattle.rebuild.specs.Segments.{cell_at, column_at, row_in}
 use Rattle.rebuild.specs.Rebuilders.{segment_samples_by}
 use Rattle.rebuild.proofs.Sixths.{agreeing}
-use Rattle.rebuild.proofs.Rectangles.{no_rows, rectangle, rectangle_covers, row_cells, row_samples, rows_more}
+use Rattle.rebuild.proofs.Rectangles.{no_rows, row_cells, row_samples, rows_above, rows_more}
 use Rattle.rebuild.proofs.rebuilder.Rebuilder.rebuild_samples.Goals as goal
 
 pub loop-row-init : goal.loop-row-init
 loop-row-init g c =
     let s = c.args.self.now.window.segment in
     let e : (s.top - s.top) * (s.right - s.left) ≡ 0 = let z : s.top - s.top ≡ 0 = omega arith in rw z (zero-mul (s.right - s.left)) in
-    (none _ _ _ (no_rows _ _ _), rw e refl)
+    (none _ _ _ (no_rows s), rw e refl)
 
 pub loop-row-preserved : goal.loop-row-preserved
 loop-row-preserved g c =
@@ -23,12 +24,11 @@ loop-row-preserved g c =
     let first = (row - s.top) * (s.right - s.left) in
     let new = segment_samples_by g.S.Store.picture g.T.Transform.meaning a.self.now records (drop a.start a.vectors.now) (cell_at s) in
     let part = segment_samples_by g.S.Store.picture g.T.Transform.meaning a.self.now (records_of c.loop-row.delivery) (drop (a.start + first) a.vectors.now) (column_at s) in (
-      both (rectangle s.left s.right s.top row) (rectangle s.left s.right row (row + 1)) (rectangle s.left s.right s.top (row + 1)) new
+      both (covers (rows_above s row)) (covers (row_in s row)) (covers (rows_above s (row + 1))) new
           _ (g.S.Store.picture c.loop-row.working) (g.S.Store.picture c.rebuild_row.new.working) c.loop-row.invariant.0
           (c.rebuild_row.ensures.samples
-          ∙ alike _ (rectangle s.left s.right row (row + 1)) part (g.S.Store.picture c.loop-row.working) (λ q u v h. sym (rectangle_covers (g.S.Store.picture c.loop-row.working) (row_in s row) q u v h))
           ∙ agreeing _ part new (g.S.Store.picture c.loop-row.working) (λ q u v e. row_samples _ s _ _ records _ (drop a.start a.vectors.now) _ row first q u v refl c.loop-row.invariant.1 (sym (drop-drop first a.start a.vectors.now)) e))
-          (λ q u v. rows_more s.left s.right s.top row q u v c.loop-row.auto.row),
+          (λ q u v. rows_more s row q u v c.loop-row.auto.row),
       c.rebuild_row.ensures.records ∙ ap (drop (s.right - s.left)) c.loop-row.invariant.1 ∙ drop-drop (s.right - s.left) first records ∙ ap (λ k. drop k records) (row_cells row s.top (s.right - s.left) c.loop-row.auto.row),
     )
 
@@ -36,4 +36,4 @@ pub returns : goal.returns
 returns g c =
     let s = c.args.self.now.window.segment in
     let end : c.loop-row.row ≡ s.bottom = omega (arith, c.loop-row.auto) in
-    rw end at c.loop-row.invariant.0 ∙ alike _ _ _ _ (λ q u v h. rectangle_covers (g.S.Store.picture c.args.working.now) s q u v h)
+    rw end at c.loop-row.invariant.0
