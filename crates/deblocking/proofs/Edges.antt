@@ -89,7 +89,7 @@ pub none_over : (p low high from q u v : ℕ) → edges p low high from from q u
 unfolding edges
 none_over p low high from q u v = grind (arith, nat_tests)
 
-pub more_along : (p low x z from to q u v : ℕ) → low ≤ x → x ≤ z → edges p low z from to q u v ≡ (edges p x z from to q u v || edges p low x from to q u v)
+more_along : (p low x z from to q u v : ℕ) → low ≤ x → x ≤ z → edges p low z from to q u v ≡ (edges p x z from to q u v || edges p low x from to q u v)
 unfolding edges
 more_along p low x z from to q u v h i = grind (arith, nat_tests)
 
@@ -102,13 +102,23 @@ pub says : (p low high n q u v : ℕ) → edges p low high n (n + 1) q u v ≡ t
 unfolding edges
 says p low high n q u v e = (grind (arith, nat_tests), grind (arith, nat_tests), grind (arith, nat_tests), grind (arith, nat_tests), grind (arith, nat_tests))
 
-pub apart_along : (p low x z n q u v j : ℕ) → edges p x z n (n + 1) q u v ≡ true → j < 4 → edges p low x n (n + 1) q u (first (edge v) + j) ≡ false
+apart_along : (p low x z n q u v j : ℕ) → edges p x z n (n + 1) q u v ≡ true → j < 4 → edges p low x n (n + 1) q u (first (edge v) + j) ≡ false
 unfolding edges
 apart_along p low x z n q u v j e m = grind (arith, nat_tests)
 
 pub apart_over : (p low high from n q u v j : ℕ) → 1 ≤ n → edges p low high n (n + 1) q u v ≡ true → j < 4 → edges p low high from n q u (first (edge v) + j) ≡ false
 unfolding edges
 apart_over p low high from n q u v j l e m = grind (arith, nat_tests)
+
+-- an edge filtered up to x along it, from there on to z, is filtered up to z: f₁ is f so far, f₂ what the part from x makes of it
+pub filtered_on : (p low x z n : ℕ) (k k₂ : ℕ → ℕ → ℕ → Option ℕ) (f f₁ f₂ : Picture) → low ≤ x → x ≤ z → 1 ≤ n
+    → f₁ ≡ painted (edges p low x n (n + 1)) (deblocked_at k f.sample) f → f₂ ≡ painted (edges p x z n (n + 1)) (deblocked_at k₂ f₁.sample) f₁
+    → ((u : ℕ) → x ≤ u → u < z → k₂ p u n ≡ k p u n) → f₂ ≡ painted (edges p low z n (n + 1)) (deblocked_at k f.sample) f
+filtered_on p low x z n k k₂ f f₁ f₂ h i l was now same =
+    then_deblocked (edges p low x n (n + 1)) (edges p x z n (n + 1)) (edges p low z n (n + 1)) k k₂ f f₁ f₂ was now
+    (λ q u v. more_along p low x z n (n + 1) q u v h i)
+    (λ q u v j e m. apart_along p low x z n q u v j e m)
+    (λ q u v e. let s = says p x z n q u v e in (s.3, omega (arith, s.4), rw (s.4, ← s.0) (same u s.1 s.2)))
 
 -- a counter that began at a has reached b, or never left a
 pub until_along : (p low high x from to q u v : ℕ) → low ≤ x → high ≤ x → x ≤ max low high → edges p low x from to q u v ≡ edges p low high from to q u v

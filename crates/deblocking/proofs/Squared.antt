@@ -22,7 +22,7 @@ pub of_square : (p x y q u v : ℕ) → square_at p x y q u v ≡ true → (p �
 unfolding square_at
 of_square p x y q u v e = (grind (arith, nat_tests), grind (arith, nat_tests), grind (arith, nat_tests), grind (arith, nat_tests), grind (arith, nat_tests))
 
--- and what each of a square's values is told to be by its number is so at each of its places
+-- what a square's values are by their numbers they are by their places
 pub square_value : (sample : ℕ → ℕ → ℕ → ℕ) (p x y : ℕ) (values : List ℕ) (q u v : ℕ) → square_at p x y q u v ≡ true
     → ((k : ℕ) → k < 64 → get_or values k 0 ≡ sample p (x + k % 8) (y + k / 8)) → get_or values (8 * (v - y) + (u - x)) 0 ≡ sample q u v
 square_value sample p x y values q u v e each =
@@ -32,6 +32,7 @@ square_value sample p x y values q u v e each =
     let down : y + k / 8 ≡ v = omega (arith, w.1, w.2, w.3) in
     each k (omega (arith, w.1, w.2, w.3, w.4)) ∙ ap (λ m. sample m (x + k % 8) (y + k / 8)) w.0 ∙ ap (λ m. sample q m (y + k / 8)) across ∙ ap (sample q u) down
 
+-- an edge at eight places along it is what lies next to it of the square
 edge_places : (p x n q u v : ℕ) → 1 ≤ n → edges p x (x + 8) n (n + 1) q u v ≡ (square_at p x (corner n) q u v && next_to (v - corner n))
 unfolding edges square_at
 edge_places p x n q u v l = grind (arith, nat_tests)

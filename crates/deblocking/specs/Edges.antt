@@ -48,6 +48,7 @@ four_from f q u v = record { a = f q u v; b = f q u (v + 1); c = f q u (v + 2); 
 abbrev pub of_role : ℕ → Four → ℕ
 of_role j s = cond (j == 0) s.a (cond (j == 1) s.b (cond (j == 2) s.c s.d))
 
+-- what is kept where there is no mark, and else what changes by its quantizer
 abbrev pub where_marked : {X : Type 0} → Option ℕ → X → (ℕ → X) → X
 where_marked None keep change = keep
 where_marked (Some quantizer) keep change = change quantizer

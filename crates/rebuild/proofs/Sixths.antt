@@ -25,31 +25,31 @@ apart : (m : Bool) (b q : ℕ) → (q + 3 ≡ b → ⊥) → (m && ltb (q + 3) (
 apart true b q h = grind (arith, nat_tests)
 apart false b q h = refl
 
--- so it is set with block b only where that is its plane's
+-- where the next block adds its places to those before it
 abbrev More : ℕ → ℕ → ℕ → ℕ → ℕ → ℕ → Type 0
 More column row b q u v =
     macroblock_up_to column row (b + 1) q u v ≡ (square_at (plane_of b) (left_in column b) (top_in row b) q u v || macroblock_up_to column row b q u v)
 
+-- none of them where a chroma plane is not the block's, and all of the plane's where it is
 elsewhere : (column row b q u v : ℕ) → 0 < q → (q + 3 ≡ b → ⊥) → eqb (plane_of b) q ≡ false → More column row b q u v
 unfolding macroblock_up_to square_at block_of
 elsewhere column row b q u v p h e =
     let z : eqb q 0 ≡ false = grind (arith, nat_tests) in
     simp (e, z) (apart (covers (segment_of_one column row) q u v) b q h)
 
--- and there all of its macroblock comes with that block
 own_plane : (column row q u v : ℕ) → More column row (q + 4) (suc q) u v
 unfolding macroblock_up_to covers square_at block_of
 own_plane column row q u v = grind (arith, nat_tests)
 
--- the places of block b come next
-blocks_more : (column row b q u v : ℕ) → b < 6 → More column row b q u v
+-- and so for every block and place
+blocks_more : (column row b q u v : ℕ) → More column row b q u v
 unfolding macroblock_up_to covers square_at block_of
-blocks_more column row zero zero u v h = grind (arith, nat_tests)
-blocks_more column row (suc zero) zero u v h = grind (arith, nat_tests)
-blocks_more column row (suc (suc zero)) zero u v h = grind (arith, nat_tests)
-blocks_more column row (suc (suc (suc zero))) zero u v h = grind (arith, nat_tests)
-blocks_more column row (suc (suc (suc (suc b)))) zero u v h = grind (arith, nat_tests)
-blocks_more column row b (suc q) u v h =
+blocks_more column row zero zero u v = grind (arith, nat_tests)
+blocks_more column row (suc zero) zero u v = grind (arith, nat_tests)
+blocks_more column row (suc (suc zero)) zero u v = grind (arith, nat_tests)
+blocks_more column row (suc (suc (suc zero))) zero u v = grind (arith, nat_tests)
+blocks_more column row (suc (suc (suc (suc b)))) zero u v = grind (arith, nat_tests)
+blocks_more column row b (suc q) u v =
     ⊎_elim (λ (e : q + 4 ≡ b). let P : ℕ → Type 0 = λ n. More column row n (suc q) u v in subst P e (own_plane column row q u v))
     (λ (n : q + 4 ≡ b → ⊥). elsewhere column row b (suc q) u v (omega arith) (λ e. n (omega (arith, e))) (grind (arith, nat_tests))) (cases_eq (q + 4) b)
 
@@ -64,13 +64,13 @@ unfolding macroblock_up_to
 blocks_all column row b q u v wide high h e = rw (lt-ltb (block_of q u v) b (omega (arith, six q u v wide high e))) (and-true _)
 
 -- a place of a block is in its plane, and the block is the one that the place belongs to
-pub in_block : (column row b q u v : ℕ) → b < 6 → square_at (plane_of b) (left_in column b) (top_in row b) q u v ≡ true → (q ≡ plane_of b) × (block_of q u v ≡ b)
+pub in_block : (column row b q u v : ℕ) → square_at (plane_of b) (left_in column b) (top_in row b) q u v ≡ true → (q ≡ plane_of b) × (block_of q u v ≡ b)
 unfolding square_at block_of
-in_block column row zero q u v h e = (grind (arith, nat_tests), grind (arith, nat_tests))
-in_block column row (suc zero) q u v h e = (grind (arith, nat_tests), grind (arith, nat_tests))
-in_block column row (suc (suc zero)) q u v h e = (grind (arith, nat_tests), grind (arith, nat_tests))
-in_block column row (suc (suc (suc zero))) q u v h e = (grind (arith, nat_tests), grind (arith, nat_tests))
-in_block column row (suc (suc (suc (suc b)))) q u v h e = (grind (arith, nat_tests), grind (arith, nat_tests))
+in_block column row zero q u v e = (grind (arith, nat_tests), grind (arith, nat_tests))
+in_block column row (suc zero) q u v e = (grind (arith, nat_tests), grind (arith, nat_tests))
+in_block column row (suc (suc zero)) q u v e = (grind (arith, nat_tests), grind (arith, nat_tests))
+in_block column row (suc (suc (suc zero))) q u v e = (grind (arith, nat_tests), grind (arith, nat_tests))
+in_block column row (suc (suc (suc (suc b)))) q u v e = (grind (arith, nat_tests), grind (arith, nat_tests))
 
 -- what is painted of the same samples at its places is one picture
 pub agreeing : (places : ℕ → ℕ → ℕ → Bool) (new new' : ℕ → ℕ → ℕ → ℕ) (f : Picture)
@@ -86,9 +86,9 @@ module _ (column row : ℕ) (new : ℕ → ℕ → ℕ → ℕ) (f : Picture) wh
   pub no_block_painted : f ≡ painted (macroblock_up_to column row 0) new f
   no_block_painted = none _ new f (blocks_none column row)
 
-  pub block_painted : (b : ℕ) (f₁ f₂ : Picture) → b < 6 → f₁ ≡ painted (macroblock_up_to column row b) new f
+  pub block_painted : (b : ℕ) (f₁ f₂ : Picture) → f₁ ≡ painted (macroblock_up_to column row b) new f
       → f₂ ≡ painted (square_at (plane_of b) (left_in column b) (top_in row b)) new f₁ → f₂ ≡ painted (macroblock_up_to column row (b + 1)) new f
-  block_painted b f₁ f₂ h was now = both _ _ (macroblock_up_to column row (b + 1)) new f f₁ f₂ was now (λ q u v. blocks_more column row b q u v h)
+  block_painted b f₁ f₂ was now = both _ _ (macroblock_up_to column row (b + 1)) new f f₁ f₂ was now (λ q u v. blocks_more column row b q u v)
 
   pub all_painted : (b : ℕ) → 6 ≤ b → painted (macroblock_up_to column row b) new f ≡ painted (covers (segment_of_one column row)) new f
   all_painted b h = alike _ _ new f (λ q u v e. blocks_all column row b q u v f.wide f.high h e)

@@ -1,8 +1,8 @@
 use Rattle.std.proofs.Common.{◌≡◌, ℕ, ◌+◌, ◌*◌, ◌/◌, ◌≤◌, max, sym, ap, ◌∙◌, arith}
 use Rattle.pictures.specs.Pictures.{side}
 use Rattle.pictures.proofs.Painting.{none, alike}
-use Rattle.deblocking.specs.Edges.{edge, edge_mark, edges, quantizer_at, is_vertical, turn}
-use Rattle.deblocking.proofs.Edges.{then_deblocked, none_along, more_along, apart_along, until_along, says, between, by_side}
+use Rattle.deblocking.specs.Edges.{edge_mark, quantizer_at, is_vertical, turn}
+use Rattle.deblocking.proofs.Edges.{between, by_side, filtered_on, none_along, until_along}
 use Rattle.deblocking.proofs.Edge.filter_along.Goals as goal
 
 -- macroblocks and the samples along them
@@ -23,21 +23,11 @@ loop-along-preserved g c =
     let n = c.args.self.number in
     let x = c.loop-along.along in
     let k = quantizer_at c.args.marks.cells.now c.args.marks.columns t in (
-      then_deblocked (edges p low (x * side p) n (n + 1)) (edges p (x * side p) ((x + 1) * side p) n (n + 1)) _ k (λ _ _ _. c.mark-mark.result)
-          (turn t (g.S.Store.picture c.args.store.now)) (turn t (g.S.Store.picture c.loop-along.store)) _
-          c.loop-along.invariant.0 c.filter_marked.ensures
-          (λ q u v. more_along p low (x * side p) ((x + 1) * side p) n (n + 1) q u v (up p _ _ c.loop-along.auto.along) (up p x (x + 1) (omega arith)))
-          (λ q u v j e m. apart_along p low (x * side p) ((x + 1) * side p) n q u v j e m)
-          (λ q u v e. let w = says p (x * side p) ((x + 1) * side p) n q u v e in
-          let b = between p x (x + 1) u w.1 w.2 in
-          let there : u / side p ≡ x = omega (arith, b.0, b.1) in (
-            w.3,
-            omega (arith, w.4),
-            c.mark-mark.ensures
-                ∙ ap (λ m. edge_mark c.args.marks.cells.now c.args.marks.columns t (side p) m n) (sym there)
-                ∙ ap (λ m. k p u m) (sym w.4)
-                ∙ ap (λ m. k m u (edge v)) w.0,
-          )),
+      filtered_on p low (x * side p) ((x + 1) * side p) n k (λ _ _ _. c.mark-mark.result) (turn t (g.S.Store.picture c.args.store.now)) (turn t (g.S.Store.picture c.loop-along.store)) _
+          (up p _ _ c.loop-along.auto.along) (up p x (x + 1) (omega arith)) (omega arith) c.loop-along.invariant.0 c.filter_marked.ensures
+          (λ u h i. let b = between p x (x + 1) u h i in
+          let there : u / side p ≡ x = omega (arith, b.0, b.1) in
+          c.mark-mark.ensures ∙ ap (λ m. edge_mark c.args.marks.cells.now c.args.marks.columns t (side p) m n) (sym there)),
       omega (arith, c.loop-along.invariant.1),
     )
 
