@@ -1,5 +1,5 @@
-// The deblocking filter of four samples over an edge of two blocks, and of eight such fours beside each other. The rule has signed corrections; the code has
-// their sizes and goes by which side is greater, so that all of it is unsigned.
+// The deblocking filter of four samples over an edge of two blocks, and at eight places along an edge side by side. The rule has signed corrections; the code
+// has their sizes and goes by which side is greater, so that all of it is unsigned.
 ghost use Rattle.std.specs.Prelude.{◌≡◌, ℕ, if◌then◌else◌, ◌<◌, ◌+◌, ◌-◌, ◌*◌, min, pos, ◌+ℤ◌, ◌-ℤ◌, unsigned_abs};
 ghost use Rattle.samples.specs.Clipping.{clipped};
 ghost use Rattle.samples.specs.Deblocking.{deblocked, four_at, inner_of, new_a, new_d, outer_of, strength_of};
@@ -106,14 +106,6 @@ fn deblock_at(strength: u8, four: &Four) -> Four
     let (a, d) = four.outer_samples(strength);
     let (b, c) = four.inner_samples(strength);
     Four { a, b, c, d }
-}
-
-// The four samples after the filter, at the strength for a macroblock's quantizer.
-pub fn deblock(quantizer: u8, four: Four) -> Four
-    ensures value { result ≡ deblocked (strength_of quantizer) four }
-    ensures unclipped { (pos result.a ≡ new_a (strength_of quantizer) four) × (pos result.d ≡ new_d (strength_of quantizer) four) }
-{
-    deblock_at(strength_of(quantizer), &four)
 }
 
 // The samples at eight places along an edge, by rows: `a` and `b` before it, `c` and `d` after it.

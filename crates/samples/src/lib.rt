@@ -9,7 +9,7 @@ mod prediction;
 mod vectors;
 
 pub use ages::{NEVER, next_age};
-pub use deblocking::{Four, FourRows, deblock, deblock_rows};
+pub use deblocking::{Four, FourRows, deblock_rows};
 pub use prediction::{
     Rounding, UnknownRounding, add_residual, add_residuals, between_four, between_two,
     squares_between_four, squares_between_two,
