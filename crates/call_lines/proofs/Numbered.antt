@@ -3,7 +3,7 @@ use Rattle.std.proofs.Common.{◌≡◌, ℕ, suc, ◌+◌, ◌-◌, ◌<◌, �
 use Rattle.script.specs.declared.line.Mistake.{Mistake}
 use Rattle.script.specs.declared.line.Mistake.TheVariants as mistake
 use Rattle.script.specs.Fields.{after_field, field_of}
-use Rattle.script.specs.Numbers.{number_of}
+use Rattle.script.specs.Numbers.{number_in}
 use Rattle.script.specs.Lines.{end_of, ended}
 use Rattle.call_lines.specs.Lines.{numbers_after}
 
@@ -11,10 +11,10 @@ module _ (seen rest : List ℕ) (n i : ℕ) where
   one_left : i < n → n - i ≡ suc (n - (i + 1))
   one_left l = omega (arith, l)
 
-  pub no_number : i < n → None ≡ number_of (field_of rest) → numbers_after seen (n - i) rest ≡ Err mistake.Number
+  pub no_number : i < n → None ≡ number_in (field_of rest) → numbers_after seen (n - i) rest ≡ Err mistake.Number
   no_number l e = rw (one_left l, ← e) refl
 
-  pub one_number : (m : ℕ) → i < n → Some m ≡ number_of (field_of rest) → numbers_after seen (n - i) rest ≡ numbers_after (seen ++ (m ∷ [])) (n - (i + 1)) (after_field rest)
+  pub one_number : (m : ℕ) → i < n → Some m ≡ number_in (field_of rest) → numbers_after seen (n - i) rest ≡ numbers_after (seen ++ (m ∷ [])) (n - (i + 1)) (after_field rest)
   one_number m l e = rw (one_left l, ← e) refl
 
   pub none_left : n ≤ i → numbers_after seen (n - i) rest ≡ ended rest seen

@@ -11,8 +11,8 @@ use Rattle.call_lines.specs.declared.line.StoreKind.TheVariants as stored
 use Rattle.call_lines.specs.declared.line.TransformKind.{TransformKind}
 use Rattle.call_lines.specs.declared.line.TransformKind.TheVariants as transformed
 use Rattle.script.specs.Fields.{after_field, field_of, is_hash, up_to}
-use Rattle.script.specs.Numbers.{number_of}
-use Rattle.script.specs.Lines.{bytes_of, ended, given, records_of, result_map}
+use Rattle.script.specs.Numbers.{number_in}
+use Rattle.script.specs.Lines.{bytes_of, ended, given, records_line, result_map}
 use Rattle.script.specs.Lines as script_lines
 
 -- a line by its meaning
@@ -26,7 +26,7 @@ pub data Meaning : Type 0 where
   sample : (plane across down : ℕ) → Meaning
   age : (column row : ℕ) → Meaning
   ages : Meaning
-  records : script_lines.Meaning → Meaning
+  records : script_lines.RecordsMeaning → Meaning
 
 abbrev pub meant : Line → Meaning
 meant (line.Store kind) = store kind
@@ -38,7 +38,7 @@ meant line.Close = close
 meant (line.Sample plane across down) = sample plane across down
 meant (line.Age column row) = age column row
 meant line.Ages = ages
-meant (line.Records r) = records (script_lines.meant r)
+meant (line.Records r) = records (script_lines.records_meant r)
 
 -- a line as it is kept, by its meaning
 abbrev pub told : Result (Option Line) Mistake → Result (Option Meaning) Mistake
@@ -56,7 +56,7 @@ transform_kind_of = one_of (codes "two-pass") transformed.TwoPass (codes "direct
 
 -- goes on with the number in the first field
 abbrev pub with_number : {X : Type 0} → List ℕ → (ℕ → Result X Mistake) → Result X Mistake
-with_number fields on = given (number_of (field_of fields)) mistake.Number on
+with_number fields on = given (number_in (field_of fields)) mistake.Number on
 
 -- numbers after those seen, one in each field, and no field after them
 abbrev pub numbers_after : List ℕ → ℕ → List ℕ → Result (List ℕ) Mistake
@@ -93,7 +93,7 @@ deliver_of fields =
     ended (after_field (after_field fields)) (deliver segment bytes)))
 
 abbrev pub records_line_of : List ℕ → Result Meaning Mistake
-records_line_of fields = result_map records (records_of fields)
+records_line_of fields = result_map records (records_line fields)
 
 -- a line that carries no bytes, by its first word
 abbrev pub plain_of : List ℕ → List ℕ → Result Meaning Mistake

@@ -86,7 +86,7 @@ abbrev pub tell_delivery : List ℕ → Result (List Macroblock) SegmentFault �
 tell_delivery bytes (Ok ms) t = answered word.Records (Delivered (delivered_of bytes ms)) (tell_macroblocks 0 ms t)
 tell_delivery bytes (Err f) t = answered word.Records (Refused (fault.Segment f)) t
 
-abbrev pub tell_records : script_lines.Meaning → Told → Told
+abbrev pub tell_records : script_lines.RecordsMeaning → Told → Told
 tell_records r t = tell_delivery r.bytes (read r.kind r.macroblocks r.bytes) t
 
 -- what a line that says something comes to

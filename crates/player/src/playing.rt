@@ -3,7 +3,7 @@ ghost use Rattle.std.specs.Prelude.{◌≡◌, ◌<◌, ◌^◌, length, map, If
 ghost use Rattle.records.specs.Again.{records_of};
 ghost use Rattle.pictures.specs.Formats.{format_of_number};
 ghost use Rattle.script.specs.Fields.{lines_of};
-ghost use Rattle.script.specs.Lines.{meant as records_meant};
+ghost use Rattle.script.specs.Lines.{records_meant};
 ghost use Rattle.calls.specs.Runs.{call_of};
 ghost use Rattle.call_lines.specs.Lines.{line_of, told};
 ghost use Rattle.transcripts.specs.Told.{Tells};

@@ -4,9 +4,9 @@ use Rattle.std.specs.Iterator.{Yields}
 use Rattle.std.specs.List.{FoldsTo}
 use Rattle.std.specs.Option.{MatchOption}
 use Rattle.std.proofs.lemmas.Fn.{fronts}
-use Rattle.script.specs.Numbers.{digit_more, digits_from, number_of}
+use Rattle.script.specs.Numbers.{digit_more, digits_from, number_in}
 
-pub some_digits : (bs : List ℕ) → 0 < length bs → number_of bs ≡ digits_from 0 bs
+pub some_digits : (bs : List ℕ) → 0 < length bs → number_in bs ≡ digits_from 0 bs
 some_digits [] h = absurd (omega (arith, h))
 some_digits (b ∷ bs) h = refl
 

@@ -9,16 +9,16 @@ use Rattle.script.specs.declared.line.Mistake.{Mistake}
 use Rattle.script.specs.declared.line.Mistake.TheVariants as mistake
 use Rattle.script.specs.declared.line.Records.{Records}
 use Rattle.script.specs.Fields.{after_field, field_of}
-use Rattle.script.specs.Numbers.{number_of, pairs_of}
+use Rattle.script.specs.Numbers.{number_in, pairs_of}
 
 -- bytes to be read as records, by their meaning
-pub record Meaning : Type 0 where
+pub record RecordsMeaning : Type 0 where
   pub kind : PictureKind
   pub macroblocks : ℕ
   pub bytes : List ℕ
 
-abbrev pub meant : Records → Meaning
-meant r = record { kind = r.kind; macroblocks = r.macroblocks; bytes = vec_items r.bytes }
+abbrev pub records_meant : Records → RecordsMeaning
+records_meant r = record { kind = r.kind; macroblocks = r.macroblocks; bytes = vec_items r.bytes }
 
 -- unless memory failed, a reader gives what a line says, or what is wrong with it
 abbrev pub Says : {X Y : Type 0} → (X → Y) → Result X LineError → Result Y Mistake → Type 0
@@ -26,8 +26,8 @@ Says view (Ok x) due = due ≡ Ok (view x)
 Says view (Err (Wrong m)) due = due ≡ Err m
 Says view (Err OutOfMemory) due = ⊤
 
-abbrev pub kind_of : List ℕ → Option PictureKind
-kind_of field = cond (bytes_eq field (codes "0")) (Some picture.Intra) (cond (bytes_eq field (codes "1")) (Some picture.Inter) None)
+abbrev pub kind_in : List ℕ → Option PictureKind
+kind_in field = cond (bytes_eq field (codes "0")) (Some picture.Intra) (cond (bytes_eq field (codes "1")) (Some picture.Inter) None)
 
 -- `-` stands for no bytes
 abbrev pub bytes_of : List ℕ → Option (List ℕ)
@@ -47,10 +47,10 @@ abbrev pub ended : {X : Type 0} → List ℕ → X → Result X Mistake
 ended rest x = cond (length (field_of rest) == 0) (Ok x) (Err mistake.Fields)
 
 -- `records KIND MACROBLOCKS BYTES`, by what stands after the first word
-abbrev pub records_of : List ℕ → Result Meaning Mistake
-records_of fields =
-    given (kind_of (field_of fields)) mistake.Kind (λ kind.
-    given (number_of (field_of (after_field fields))) mistake.Macroblocks (λ macroblocks.
+abbrev pub records_line : List ℕ → Result RecordsMeaning Mistake
+records_line fields =
+    given (kind_in (field_of fields)) mistake.Kind (λ kind.
+    given (number_in (field_of (after_field fields))) mistake.Macroblocks (λ macroblocks.
     given (bytes_of (field_of (after_field (after_field fields)))) mistake.Bytes (λ bytes.
     ended (after_field (after_field (after_field fields))) (record { kind = kind; macroblocks = macroblocks; bytes = bytes }))))
 

@@ -18,9 +18,9 @@ digits_from value [] = Some value
 digits_from value (b ∷ bs) = when_some (digit_more value b) (λ next. digits_from next bs)
 
 -- one digit or more
-abbrev pub number_of : List ℕ → Option ℕ
-number_of [] = None
-number_of (b ∷ bs) = digits_from 0 (b ∷ bs)
+abbrev pub number_in : List ℕ → Option ℕ
+number_in [] = None
+number_in (b ∷ bs) = digits_from 0 (b ∷ bs)
 
 -- a hexadecimal digit: 97 is 'a', 65 is 'A'
 abbrev pub nibble_of : ℕ → Option ℕ

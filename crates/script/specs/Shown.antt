@@ -8,8 +8,8 @@ is_level (pos n) = not (n == 0)
 is_level (negsuc n) = true
 
 -- the levels that are not 0
-abbrev pub count_of : List ℤ → ℕ
-count_of levels = count_by is_level levels
+abbrev pub nonzero_levels : List ℤ → ℕ
+nonzero_levels levels = count_by is_level levels
 
 abbrev pub coefficients_in : List Block → ℕ
-coefficients_in blocks = sum_by (λ (block : Block). count_of block.levels) blocks
+coefficients_in blocks = sum_by (λ (block : Block). nonzero_levels block.levels) blocks

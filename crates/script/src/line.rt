@@ -2,7 +2,7 @@
 ghost use Rattle.std.specs.Prelude.{◌≡◌, ℕ, IfOk, vec_items, codes};
 ghost use Rattle.std.specs.Option.{option_map};
 ghost use Rattle.script.specs.declared.line.LineError.TheVariants.{OutOfMemory, Wrong};
-ghost use Rattle.script.specs.Lines.{Says, bytes_of, end_of, kind_of, meant, records_of};
+ghost use Rattle.script.specs.Lines.{Says, bytes_of, end_of, kind_in, records_line, records_meant};
 
 use crate::fields::split_field;
 use crate::numbers::{number, unhex};
@@ -54,8 +54,8 @@ pub struct Records {
 }
 
 // The kind of a picture by its number. (No `TryFrom`, since neither the kind nor the field's type is this crate's.)
-pub fn kind_of(field: &[u8]) -> Option<PictureKind>
-    ensures { result ≡ kind_of field.now }
+pub fn kind_in(field: &[u8]) -> Option<PictureKind>
+    ensures { result ≡ kind_in field.now }
 {
     match field {
         b"0" => Some(PictureKind::Intra),
@@ -89,12 +89,12 @@ pub fn end(fields: &[u8]) -> Result<(), Mistake>
 
 // The fields after `records`.
 pub fn records_line(heap: Global, fields: &[u8]) -> Result<Records, LineError>
-    ensures { Says meant result (records_of fields.now) }
+    ensures { Says records_meant result (records_line fields.now) }
 {
     let (kind, rest) = split_field(fields);
     let (macroblocks, rest) = split_field(rest);
     let (bytes, rest) = split_field(rest);
-    let kind = kind_of(kind).ok_or(Mistake::Kind)?;
+    let kind = kind_in(kind).ok_or(Mistake::Kind)?;
     let macroblocks = number(macroblocks).ok_or(Mistake::Macroblocks)?;
     let bytes = bytes_of(heap, bytes)?.ok_or(Mistake::Bytes)?;
     end(rest)?;

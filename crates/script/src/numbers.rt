@@ -1,7 +1,7 @@
 // Numbers and bytes that are written in a script.
 ghost use Rattle.std.specs.Prelude.{◌≡◌, ℕ, IfOk, vec_items};
 ghost use Rattle.std.specs.Option.{option_map};
-ghost use Rattle.script.specs.Numbers.{digit_more, nibble_of, number_of, pairs_of};
+ghost use Rattle.script.specs.Numbers.{digit_more, nibble_of, number_in, pairs_of};
 
 use std::alloc::{AllocError, Global};
 
@@ -17,7 +17,7 @@ fn push_digit(value: u32, digit: u8) -> Option<u32>
 
 // The number that a field of decimal digits stands for, below 2^32. (Not by `parse`: a field is bytes and no `str`, and a sign, which `parse` takes, is no digit.)
 pub fn number(field: &[u8]) -> Option<u32>
-    ensures { result ≡ number_of field.now }
+    ensures { result ≡ number_in field.now }
 {
     if field.is_empty() {
         return None;
