@@ -41,8 +41,8 @@ meant line.Ages = ages
 meant (line.Records r) = records (script_lines.records_meant r)
 
 -- a line as it is kept, by its meaning
-abbrev pub told : Result (Option Line) Mistake → Result (Option Meaning) Mistake
-told said = result_map (option_map meant) said
+abbrev pub line_meant : Result (Option Line) Mistake → Result (Option Meaning) Mistake
+line_meant said = result_map (option_map meant) said
 
 -- the first of two texts stands for one value, the second for another
 abbrev pub one_of : {X : Type 0} → List ℕ → X → List ℕ → X → List ℕ → Option X
@@ -64,30 +64,30 @@ numbers_after seen zero fields = ended fields seen
 numbers_after seen (suc n) fields = with_number fields (λ number. numbers_after (seen ++ (number ∷ [])) n (after_field fields))
 
 -- so many numbers
-abbrev pub numbers_of : ℕ → List ℕ → Result (List ℕ) Mistake
-numbers_of n fields = numbers_after [] n fields
+abbrev pub numbers_in : ℕ → List ℕ → Result (List ℕ) Mistake
+numbers_in n fields = numbers_after [] n fields
 
 -- each by what stands after its first word
-abbrev pub store_of : List ℕ → Result Meaning Mistake
-store_of fields = given (store_kind_of (field_of fields)) mistake.Store (λ kind. ended (after_field fields) (store kind))
+abbrev pub store_line_of : List ℕ → Result Meaning Mistake
+store_line_of fields = given (store_kind_of (field_of fields)) mistake.Store (λ kind. ended (after_field fields) (store kind))
 
-abbrev pub transform_of : List ℕ → Result Meaning Mistake
-transform_of fields = given (transform_kind_of (field_of fields)) mistake.Transform (λ kind. ended (after_field fields) (transform kind))
+abbrev pub transform_line_of : List ℕ → Result Meaning Mistake
+transform_line_of fields = given (transform_kind_of (field_of fields)) mistake.Transform (λ kind. ended (after_field fields) (transform kind))
 
-abbrev pub new_of : List ℕ → Result Meaning Mistake
-new_of fields = result_map (λ n. new (get_or n 0 0)) (numbers_of 1 fields)
+abbrev pub new_line_of : List ℕ → Result Meaning Mistake
+new_line_of fields = result_map (λ n. new (get_or n 0 0)) (numbers_in 1 fields)
 
-abbrev pub open_of : List ℕ → Result Meaning Mistake
-open_of fields = result_map (λ n. opened (get_or n 0 0) (get_or n 1 0) (get_or n 2 0)) (numbers_of 3 fields)
+abbrev pub open_line_of : List ℕ → Result Meaning Mistake
+open_line_of fields = result_map (λ n. opened (get_or n 0 0) (get_or n 1 0) (get_or n 2 0)) (numbers_in 3 fields)
 
-abbrev pub sample_of : List ℕ → Result Meaning Mistake
-sample_of fields = result_map (λ n. sample (get_or n 0 0) (get_or n 1 0) (get_or n 2 0)) (numbers_of 3 fields)
+abbrev pub sample_line_of : List ℕ → Result Meaning Mistake
+sample_line_of fields = result_map (λ n. sample (get_or n 0 0) (get_or n 1 0) (get_or n 2 0)) (numbers_in 3 fields)
 
-abbrev pub age_of : List ℕ → Result Meaning Mistake
-age_of fields = result_map (λ n. age (get_or n 0 0) (get_or n 1 0)) (numbers_of 2 fields)
+abbrev pub age_line_of : List ℕ → Result Meaning Mistake
+age_line_of fields = result_map (λ n. age (get_or n 0 0) (get_or n 1 0)) (numbers_in 2 fields)
 
-abbrev pub deliver_of : List ℕ → Result Meaning Mistake
-deliver_of fields =
+abbrev pub deliver_line_of : List ℕ → Result Meaning Mistake
+deliver_line_of fields =
     with_number fields (λ segment.
     given (bytes_of (field_of (after_field fields))) mistake.Bytes (λ bytes.
     ended (after_field (after_field fields)) (deliver segment bytes)))
@@ -96,24 +96,24 @@ abbrev pub records_line_of : List ℕ → Result Meaning Mistake
 records_line_of fields = result_map records (records_line fields)
 
 -- a line that carries no bytes, by its first word
-abbrev pub plain_of : List ℕ → List ℕ → Result Meaning Mistake
-plain_of call fields =
-    cond (bytes_eq call (codes "store")) (store_of fields)
-    (cond (bytes_eq call (codes "transform")) (transform_of fields)
-    (cond (bytes_eq call (codes "new")) (new_of fields)
-    (cond (bytes_eq call (codes "open")) (open_of fields)
+abbrev pub plain_line_of : List ℕ → List ℕ → Result Meaning Mistake
+plain_line_of call fields =
+    cond (bytes_eq call (codes "store")) (store_line_of fields)
+    (cond (bytes_eq call (codes "transform")) (transform_line_of fields)
+    (cond (bytes_eq call (codes "new")) (new_line_of fields)
+    (cond (bytes_eq call (codes "open")) (open_line_of fields)
     (cond (bytes_eq call (codes "close")) (ended fields close)
-    (cond (bytes_eq call (codes "sample")) (sample_of fields)
-    (cond (bytes_eq call (codes "age")) (age_of fields)
+    (cond (bytes_eq call (codes "sample")) (sample_line_of fields)
+    (cond (bytes_eq call (codes "age")) (age_line_of fields)
     (cond (bytes_eq call (codes "ages")) (ended fields ages)
     (Err mistake.Call))))))))
 
 -- any line, by its first word
 abbrev pub worded : List ℕ → List ℕ → Result Meaning Mistake
 worded call fields =
-    cond (bytes_eq call (codes "deliver")) (deliver_of fields)
+    cond (bytes_eq call (codes "deliver")) (deliver_line_of fields)
     (cond (bytes_eq call (codes "records")) (records_line_of fields)
-    (plain_of call fields))
+    (plain_line_of call fields))
 
 -- a line, up to a comment; a blank one says nothing
 abbrev pub line_of : List ℕ → Result (Option Meaning) Mistake

@@ -3,7 +3,7 @@ ghost use Rattle.std.specs.Prelude.{◌≡◌, ℕ, IfOk, vec_items, codes};
 ghost use Rattle.std.specs.Option.{ok_or};
 ghost use Rattle.script.specs.Lines.{Says, ended, result_map};
 ghost use Rattle.script.specs.declared.line.Mistake.TheVariants as mistake;
-ghost use Rattle.call_lines.specs.Lines.{age_of, deliver_of, line_of, meant, new_of, numbers_of, open_of, plain_of, sample_of, store_kind_of, store_of, told, worded, transform_kind_of, transform_of};
+ghost use Rattle.call_lines.specs.Lines.{age_line_of, deliver_line_of, line_of, meant, new_line_of, numbers_in, open_line_of, plain_line_of, sample_line_of, store_kind_of, store_line_of, line_meant, worded, transform_kind_of, transform_line_of};
 
 use script::fields::{is_text, split_field, without_comment};
 use script::line::{LineError, Mistake, Records, bytes_of, end, records_line};
@@ -89,7 +89,7 @@ pub type Said = Result<Option<Line>, Mistake>;
 
 // As many numbers as are due, one in each field, and no field after them.
 fn numbers<const N: usize>(fields: &[u8]) -> Result<[u32; N], Mistake>
-    ensures { result ≡ numbers_of N fields.now }
+    ensures { result ≡ numbers_in N fields.now }
 {
     let mut numbers = [0; N];
     let mut rest = fields;
@@ -104,7 +104,7 @@ fn numbers<const N: usize>(fields: &[u8]) -> Result<[u32; N], Mistake>
 
 // The fields after `store`. (One function for this and the next would be generic over the choice, and say its result by the bound's relation alone.)
 fn store_line(fields: &[u8]) -> Result<Line, Mistake>
-    ensures { result_map meant result ≡ store_of fields.now }
+    ensures { result_map meant result ≡ store_line_of fields.now }
 {
     let (kind, rest) = split_field(fields);
     let kind = StoreKind::try_from(kind)?;
@@ -114,7 +114,7 @@ fn store_line(fields: &[u8]) -> Result<Line, Mistake>
 
 // The fields after `transform`.
 fn transform_line(fields: &[u8]) -> Result<Line, Mistake>
-    ensures { result_map meant result ≡ transform_of fields.now }
+    ensures { result_map meant result ≡ transform_line_of fields.now }
 {
     let (kind, rest) = split_field(fields);
     let kind = TransformKind::try_from(kind)?;
@@ -124,7 +124,7 @@ fn transform_line(fields: &[u8]) -> Result<Line, Mistake>
 
 // The fields after `new`.
 fn new_line(fields: &[u8]) -> Result<Line, Mistake>
-    ensures { result_map meant result ≡ new_of fields.now }
+    ensures { result_map meant result ≡ new_line_of fields.now }
 {
     let [format] = numbers::<1>(fields)?;
     Ok(Line::New { format })
@@ -132,7 +132,7 @@ fn new_line(fields: &[u8]) -> Result<Line, Mistake>
 
 // The fields after `open`. (It and those below share `numbers`, and differ in the names that they give them.)
 fn open_line(fields: &[u8]) -> Result<Line, Mistake>
-    ensures { result_map meant result ≡ open_of fields.now }
+    ensures { result_map meant result ≡ open_line_of fields.now }
 {
     let [kind, rounding, layout] = numbers::<3>(fields)?;
     Ok(Line::Open {
@@ -144,7 +144,7 @@ fn open_line(fields: &[u8]) -> Result<Line, Mistake>
 
 // The fields after `sample`.
 fn sample_line(fields: &[u8]) -> Result<Line, Mistake>
-    ensures { result_map meant result ≡ sample_of fields.now }
+    ensures { result_map meant result ≡ sample_line_of fields.now }
 {
     let [plane, across, down] = numbers::<3>(fields)?;
     Ok(Line::Sample {
@@ -156,7 +156,7 @@ fn sample_line(fields: &[u8]) -> Result<Line, Mistake>
 
 // The fields after `age`.
 fn age_line(fields: &[u8]) -> Result<Line, Mistake>
-    ensures { result_map meant result ≡ age_of fields.now }
+    ensures { result_map meant result ≡ age_line_of fields.now }
 {
     let [column, row] = numbers::<2>(fields)?;
     Ok(Line::Age { column, row })
@@ -172,7 +172,7 @@ fn bare_line(line: Line, fields: &[u8]) -> Result<Line, Mistake>
 
 // The fields after `deliver`.
 fn deliver_line(heap: Global, fields: &[u8]) -> Result<Line, LineError>
-    ensures { Says meant result (deliver_of fields.now) }
+    ensures { Says meant result (deliver_line_of fields.now) }
 {
     let (segment, rest) = split_field(fields);
     let (bytes, rest) = split_field(rest);
@@ -184,7 +184,7 @@ fn deliver_line(heap: Global, fields: &[u8]) -> Result<Line, LineError>
 
 // A line that carries no bytes, by its first word.
 fn plain_line(call: &[u8], fields: &[u8]) -> Result<Line, Mistake>
-    ensures { result_map meant result ≡ plain_of call.now fields.now }
+    ensures { result_map meant result ≡ plain_line_of call.now fields.now }
 {
     // no `match` on the words' bytes: what it says at `_` stayed open, over some forty ways that lead there
     if is_text(call, b"store") {
@@ -223,7 +223,7 @@ fn worded_line(heap: Global, call: &[u8], fields: &[u8]) -> Result<Line, LineErr
 
 // What a line says, where memory does not fail.
 pub fn read_line(heap: Global, line: &[u8]) -> Result<Said, AllocError>
-    ensures { IfOk result (λ said. told said ≡ line_of line.now) }
+    ensures { IfOk result (λ said. line_meant said ≡ line_of line.now) }
 {
     let (call, fields) = split_field(without_comment(line));
     if call.is_empty() {

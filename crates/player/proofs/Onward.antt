@@ -9,15 +9,15 @@ use Rattle.script.specs.Fields.{lines_of}
 use Rattle.call_lines.specs.declared.line.Line.{Line}
 use Rattle.call_lines.specs.declared.line.StoreKind.{StoreKind}
 use Rattle.call_lines.specs.declared.line.TransformKind.TheVariants.{TwoPass}
-use Rattle.call_lines.specs.Lines.{line_of, told}
+use Rattle.call_lines.specs.Lines.{line_of, line_meant}
 use Rattle.transcripts.specs.declared.transcript.Transcript.{Transcript}
 use Rattle.transcripts.specs.Answers.{Grown, done_text, line_after}
-use Rattle.transcripts.specs.Told.{Tells, Told, told_by}
+use Rattle.transcripts.specs.Transcribed.{Transcribes, Transcribed, transcribed_in}
 use Rattle.seats.specs.declared.seat.Choices.{Choices}
 use Rattle.seats.specs.declared.seat.Seat.{Seat}
-use Rattle.player.specs.Plays.{Played, answers_to, done, ended, leaving, line_played, lines_played, told_of}
+use Rattle.player.specs.Plays.{Played, answers_to, done, ended, leaving, line_played, lines_played, transcribed_of}
 use Rattle.player.specs.Seen.{Plays, playing_in}
-use Rattle.transcripts.proofs.Telling.{tells_had}
+use Rattle.transcripts.proofs.Transcribing.{transcribes_had}
 use Rattle.player.proofs.Seeing.{Left, left_more, view}
 
 abbrev Said : Type 0
@@ -26,18 +26,18 @@ Said = Result (Option Line) Mistake
 module _ (ls : List Said) (seat₀ : Option Seat) (choices₀ : Choices) (old : Transcript) where
   -- the lines from this one on are left to be played
   abbrev pub PlayedTo : ℕ → Option Seat → Choices → Transcript → Type 0
-  PlayedTo index seat choices now = Left (lines_played 1 (map told ls)) seat₀ choices₀ old (lines_played (index + 1) (map told (drop index ls))) seat choices now
+  PlayedTo index seat choices now = Left (lines_played 1 (map line_meant ls)) seat₀ choices₀ old (lines_played (index + 1) (map line_meant (drop index ls))) seat choices now
 
   -- one line more is played
   pub played : (index : ℕ) (seat : Option Seat) (choices : Choices) (now : Transcript) (l : Said) (seat' : Option Seat) (choices' : Choices) (new : Transcript) → PlayedTo index seat choices now
-      → l ≡ get_or ls index l → index < length ls → Plays (line_played (index + 1) (told l)) seat choices now seat' choices' new → PlayedTo (index + 1) seat' choices' new
+      → l ≡ get_or ls index l → index < length ls → Plays (line_played (index + 1) (line_meant l)) seat choices now seat' choices' new → PlayedTo (index + 1) seat' choices' new
   played index seat choices now l seat' choices' new was is below turn =
-      left_more (lines_played 1 (map told ls)) seat₀ choices₀ old (lines_played (index + 1) (map told (drop index ls))) (line_played (index + 1) (told l))
-      (lines_played (index + 1 + 1) (map told (drop (index + 1) ls))) seat choices now seat' choices' new was turn
-      (λ p. ap (λ k. lines_played (index + 1 + 1) (map told (drop (index + 1) ls)) (line_played (index + 1) (told k) p)) is
-      ∙ sym (at_drop_more (λ xs. lines_played (index + 1) (map told xs) p) ls index l below))
+      left_more (lines_played 1 (map line_meant ls)) seat₀ choices₀ old (lines_played (index + 1) (map line_meant (drop index ls))) (line_played (index + 1) (line_meant l))
+      (lines_played (index + 1 + 1) (map line_meant (drop (index + 1) ls))) seat choices now seat' choices' new was turn
+      (λ p. ap (λ k. lines_played (index + 1 + 1) (map line_meant (drop (index + 1) ls)) (line_played (index + 1) (line_meant k) p)) is
+      ∙ sym (at_drop_more (λ xs. lines_played (index + 1) (map line_meant xs) p) ls index l below))
 
-over_end : (all : Played → Played) (v v' : Told → Played) (o o' : Option Told) → option_map (λ p. p) (option_map v' o') ≡ option_map all (option_map v o) → option_map (λ t. ended (v' t)) o' ≡ option_map (λ t. ended (all (v t))) o
+over_end : (all : Played → Played) (v v' : Transcribed → Played) (o o' : Option Transcribed) → option_map (λ p. p) (option_map v' o') ≡ option_map all (option_map v o) → option_map (λ t. ended (v' t)) o' ≡ option_map (λ t. ended (all (v t))) o
 over_end all v v' None None e = refl
 over_end all v v' None (Some t) e = ap (option_map ended) e
 over_end all v v' (Some t) None e = ap (option_map ended) e
@@ -45,45 +45,45 @@ over_end all v v' (Some t) (Some u) e = ap (option_map ended) e
 
 -- after the last line the seat is left
 pub all_played : (ls : List Said) (kind : StoreKind) (old : Transcript) (index : ℕ) (seat : Option Seat) (choices : Choices) (now new : Transcript)
-    → PlayedTo ls None (record { store = kind; transform = TwoPass }) old index seat choices now → length ls ≤ index → Tells (leaving (playing_in seat)) now new
-    → Tells (told_of kind (map told ls)) old new
+    → PlayedTo ls None (record { store = kind; transform = TwoPass }) old index seat choices now → length ls ≤ index → Transcribes (leaving (playing_in seat)) now new
+    → Transcribes (transcribed_of kind (map line_meant ls)) old new
 all_played ls kind old index seat choices now new was last left =
     let start : Choices = record { store = kind; transform = TwoPass } in
     record {
-      told = λ some.
-          left.told some
-          ∙ over_end (lines_played 1 (map told ls)) (view None start) (view seat choices) (told_by old) (told_by now)
-          (ap (λ xs. option_map (lines_played (index + 1) (map told xs)) (option_map (view seat choices) (told_by now))) (sym (drop_all index ls last))
-          ∙ was.left (tells_had (leaving (playing_in seat)) now new left some));
+      transcribed = λ some.
+          left.transcribed some
+          ∙ over_end (lines_played 1 (map line_meant ls)) (view None start) (view seat choices) (transcribed_in old) (transcribed_in now)
+          (ap (λ xs. option_map (lines_played (index + 1) (map line_meant xs)) (option_map (view seat choices) (transcribed_in now))) (sym (drop_all index ls last))
+          ∙ was.left (transcribes_had (leaving (playing_in seat)) now new left some));
     }
 
-from_bytes : {A : Type 0} (o : Option (String A)) → option_map string_bytes o ≡ Some [] → ◌≡◌ {A = Option Told} (option_map (λ s. record { text = string_bytes s; calls = 0; refused = 0 }) o) (Some (record { text = []; calls = 0; refused = 0 }))
+from_bytes : {A : Type 0} (o : Option (String A)) → option_map string_bytes o ≡ Some [] → ◌≡◌ {A = Option Transcribed} (option_map (λ s. record { text = string_bytes s; calls = 0; refused = 0 }) o) (Some (record { text = []; calls = 0; refused = 0 }))
 from_bytes None e = absurd (cc)
 from_bytes (Some s) e = let b : string_bytes s ≡ [] = cc in ap (λ bs. Some (record { text = bs; calls = 0; refused = 0 })) b
 
-zero_told : (s : Transcript) → option_map string_bytes s.text ≡ Some [] → s.calls ≡ 0 → s.refused ≡ 0 → told_by s ≡ Some (record { text = []; calls = 0; refused = 0 })
-zero_told s t c r = rw (c, r) (from_bytes s.text t)
+zero_transcribed : (s : Transcript) → option_map string_bytes s.text ≡ Some [] → s.calls ≡ 0 → s.refused ≡ 0 → transcribed_in s ≡ Some (record { text = []; calls = 0; refused = 0 })
+zero_transcribed s t c r = rw (c, r) (from_bytes s.text t)
 
 had_some : {A B : Type 0} (o : Option (String A)) (text : String B) (line : List ℕ) → ◌≡◌ {A = Option (List ℕ)} (Some (string_bytes text)) (option_map (λ s. line_after (string_bytes s) line) o) → IsSome o
 had_some None text line e = absurd (cc)
 had_some (Some s) text line e = refl
 
-done_is : {A : Type 0} (o : Option (String A)) (calls refused : ℕ) (bytes : List ℕ) (t : Told) → ◌≡◌ {A = Option (List ℕ)} (Some bytes) (option_map (λ s. line_after (string_bytes s) (done_text calls refused)) o)
+done_is : {A : Type 0} (o : Option (String A)) (calls refused : ℕ) (bytes : List ℕ) (t : Transcribed) → ◌≡◌ {A = Option (List ℕ)} (Some bytes) (option_map (λ s. line_after (string_bytes s) (done_text calls refused)) o)
     → option_map (λ s. record { text = string_bytes s; calls = calls; refused = refused }) o ≡ Some t → bytes ≡ done t
 done_is None calls refused bytes t e u = absurd (cc)
 done_is (Some s) calls refused bytes t e u =
     let b : bytes ≡ line_after (string_bytes s) (done_text calls refused) = cc in
-    let k : ◌≡◌ {A = Told} (record { text = string_bytes s; calls = calls; refused = refused }) t = cc in
+    let k : ◌≡◌ {A = Transcribed} (record { text = string_bytes s; calls = calls; refused = refused }) t = cc in
     b ∙ ap done k
 
 -- the whole text
-pub all_answered : (kind : StoreKind) (script : List ℕ) (ls : List Said) (r : Result (String Global) AllocError) (old new : Transcript) → map told ls ≡ map line_of (lines_of script)
-    → option_map string_bytes old.text ≡ Some [] → old.calls ≡ 0 → old.refused ≡ 0 → Tells (told_of kind (map told ls)) old new → Grown new.text (result_ok r) (done_text new.calls new.refused)
+pub all_answered : (kind : StoreKind) (script : List ℕ) (ls : List Said) (r : Result (String Global) AllocError) (old new : Transcript) → map line_meant ls ≡ map line_of (lines_of script)
+    → option_map string_bytes old.text ≡ Some [] → old.calls ≡ 0 → old.refused ≡ 0 → Transcribes (transcribed_of kind (map line_meant ls)) old new → Grown new.text (result_ok r) (done_text new.calls new.refused)
     → IfOk r (λ text. string_bytes text ≡ answers_to kind script)
 all_answered kind script ls (Err x) old new e t c f p g = tt
 all_answered kind script ls (Ok text) old new e t c f p g =
-    let zero : Told = record { text = []; calls = 0; refused = 0 } in
+    let zero : Transcribed = record { text = []; calls = 0; refused = 0 } in
     let grown = g refl in
     let some = had_some new.text text (done_text new.calls new.refused) grown in
-    let told_new = p.told some ∙ ap (option_map (told_of kind (map told ls))) (zero_told old t c f) in
-    done_is new.text new.calls new.refused (string_bytes text) (told_of kind (map told ls) zero) grown told_new ∙ ap (λ lines. done (told_of kind lines zero)) e
+    let transcribed_new = p.transcribed some ∙ ap (option_map (transcribed_of kind (map line_meant ls))) (zero_transcribed old t c f) in
+    done_is new.text new.calls new.refused (string_bytes text) (transcribed_of kind (map line_meant ls) zero) grown transcribed_new ∙ ap (λ lines. done (transcribed_of kind lines zero)) e

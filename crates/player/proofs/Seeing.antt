@@ -3,48 +3,48 @@ use Rattle.std.proofs.Common.{◌≡◌, IsSome, Some, None, Option, Ok, refl, a
 use Rattle.std.specs.Option.{option_map}
 use Rattle.calls.specs.Runs.{Calling, step}
 use Rattle.transcripts.specs.declared.transcript.Transcript.{Transcript}
-use Rattle.transcripts.specs.Told.{Tells, Told, accepted, told_by}
+use Rattle.transcripts.specs.Transcribed.{Transcribes, Transcribed, transcribe_done, transcribed_in}
 use Rattle.seats.specs.declared.seat.Choices.{Choices}
 use Rattle.seats.specs.declared.seat.Seat.{Seat}
 use Rattle.seats.specs.Steps.{setting_in, state_in}
-use Rattle.seats.specs.Tellings.{miss_call, tell_call}
+use Rattle.seats.specs.Transcriptions.{miss_call, transcribe_call}
 use Rattle.pictures.specs.declared.formats.Format.{Format}
 use Rattle.reel.specs.Calls.{new_reel}
 use Rattle.reel.specs.declared.reels.Reel.{Reel}
 use Rattle.replay.specs.declared.Stage.TheVariants.{Resting}
 use Rattle.replay.specs.Stages.{setting_at, state_of}
 use Rattle.transcripts.specs.declared.answers.Word.TheVariants as word
-use Rattle.transcripts.proofs.Telling.{tells_then}
+use Rattle.transcripts.proofs.Transcribing.{transcribes_then}
 use Rattle.seats.specs.Seats.{blank, held_by, meaning_of}
-use Rattle.player.specs.Plays.{Played, Playing, begun, leaving, make_call, telling}
+use Rattle.player.specs.Plays.{Played, Playing, begun, leaving, make_call, transcribing}
 use Rattle.player.specs.Seen.{Plays, playing_in, seen}
 
-abbrev pub view : Option Seat → Choices → Told → Played
-view seat choices t = record { store = choices.store; transform = choices.transform; reel = playing_in seat; told = t }
+abbrev pub view : Option Seat → Choices → Transcribed → Played
+view seat choices t = record { store = choices.store; transform = choices.transform; reel = playing_in seat; transcribed = t }
 
 over : {X Y : Type 0} (f : Y → Y) (g : X → X) (v v' : X → Y) (o : Option X) → ((t : X) → v' (g t) ≡ f (v t)) → option_map v' (option_map g o) ≡ option_map f (option_map v o)
 over f g v v' None e = refl
 over f g v v' (Some x) e = ap Some (e x)
 
--- what is told, and seat and choices where memory sufficed
-pub plays_from : (f : Played → Played) (g : Told → Told) (seat : Option Seat) (choices : Choices) (old : Transcript) (seat' : Option Seat) (choices' : Choices) (new : Transcript)
-    → Tells g old new → (IsSome new.text → (t : Told) → view seat' choices' (g t) ≡ f (view seat choices t)) → Plays f seat choices old seat' choices' new
+-- what is transcribed, and seat and choices where memory sufficed
+pub plays_from : (f : Played → Played) (g : Transcribed → Transcribed) (seat : Option Seat) (choices : Choices) (old : Transcript) (seat' : Option Seat) (choices' : Choices) (new : Transcript)
+    → Transcribes g old new → (IsSome new.text → (t : Transcribed) → view seat' choices' (g t) ≡ f (view seat choices t)) → Plays f seat choices old seat' choices' new
 plays_from f g seat choices old seat' choices' new p e =
-    record { played = λ some. ap (option_map (view seat' choices')) (p.told some) ∙ over f g (view seat choices) (view seat' choices') (told_by old) (e some) }
+    record { played = λ some. ap (option_map (view seat' choices')) (p.transcribed some) ∙ over f g (view seat choices) (view seat' choices') (transcribed_in old) (e some) }
 
 -- only the text changes
-pub plays_told : (g : Told → Told) (seat : Option Seat) (choices : Choices) (old new : Transcript) → Tells g old new → Plays (telling g) seat choices old seat choices new
-plays_told g seat choices old new p = plays_from (telling g) g seat choices old seat choices new p (λ some t. refl)
+pub plays_transcribed : (g : Transcribed → Transcribed) (seat : Option Seat) (choices : Choices) (old new : Transcript) → Transcribes g old new → Plays (transcribing g) seat choices old seat choices new
+plays_transcribed g seat choices old new p = plays_from (transcribing g) g seat choices old seat choices new p (λ some t. refl)
 
 -- a call without a reel, and with one
-pub missed_plays : (c : Calling) (choices : Choices) (old new : Transcript) → Tells (miss_call c) old new → Plays (make_call c) None choices old None choices new
+pub missed_plays : (c : Calling) (choices : Choices) (old new : Transcript) → Transcribes (miss_call c) old new → Plays (make_call c) None choices old None choices new
 missed_plays c choices old new p = plays_from (make_call c) (miss_call c) None choices old None choices new p (λ some t. refl)
 
 pub made_plays : (c : Calling) (seat seat' : Seat) (choices : Choices) (old new : Transcript) → state_in seat' ≡ step (setting_in seat) (state_in seat) c → setting_in seat' ≡ setting_in seat
-    → Tells (tell_call (setting_in seat) (state_in seat) c) old new → Plays (make_call c) (Some seat) choices old (Some seat') choices new
+    → Transcribes (transcribe_call (setting_in seat) (state_in seat) c) old new → Plays (make_call c) (Some seat) choices old (Some seat') choices new
 made_plays c seat seat' choices old new s w p =
-    plays_from (make_call c) (tell_call (setting_in seat) (state_in seat) c) (Some seat) choices old (Some seat') choices new p
-    (λ some t. ap (λ (r : Playing). record { store = choices.store; transform = choices.transform; reel = Some r; told = tell_call (setting_in seat) (state_in seat) c t }) (λ i. record { setting = w i; state = s i }))
+    plays_from (make_call c) (transcribe_call (setting_in seat) (state_in seat) c) (Some seat) choices old (Some seat') choices new p
+    (λ some t. ap (λ (r : Playing). record { store = choices.store; transform = choices.transform; reel = Some r; transcribed = transcribe_call (setting_in seat) (state_in seat) c t }) (λ i. record { setting = w i; state = s i }))
 
 played_as : (f g : Played → Played) (o : Option Played) → ((p : Played) → f p ≡ g p) → option_map f o ≡ option_map g o
 played_as f g None e = refl
@@ -66,20 +66,20 @@ some_out v (Some x) some = refl
 -- there was a text before
 pub plays_had : (f : Played → Played) (seat : Option Seat) (choices : Choices) (old : Transcript) (seat' : Option Seat) (choices' : Choices) (new : Transcript) → Plays f seat choices old seat' choices' new → IsSome new.text → IsSome old.text
 plays_had f seat choices old seat' choices' new p some =
-    some_out _ old.text (some_out (view seat choices) (told_by old) (some_out f (seen seat choices old)
-    (subst IsSome (p.played some) (some_in (view seat' choices') (told_by new) (some_in (λ s. record { text = string_bytes s; calls = new.calls; refused = new.refused }) new.text some)))))
+    some_out _ old.text (some_out (view seat choices) (transcribed_in old) (some_out f (seen seat choices old)
+    (subst IsSome (p.played some) (some_in (view seat' choices') (transcribed_in new) (some_in (λ s. record { text = string_bytes s; calls = new.calls; refused = new.refused }) new.text some)))))
 
 -- a new reel begins
 pub begun_plays : (o : Option Format) (reel : Reel) (seat : Option Seat) (next : Seat) (choices : Choices) (x y z : Transcript) → Ok reel ≡ new_reel o
-    → next.stage ≡ Resting reel → next.transform ≡ choices.transform → held_by next.memory ≡ blank reel.format → Tells (leaving (playing_in seat)) x y → Tells (accepted word.New) y z
+    → next.stage ≡ Resting reel → next.transform ≡ choices.transform → held_by next.memory ≡ blank reel.format → Transcribes (leaving (playing_in seat)) x y → Transcribes (transcribe_done word.New) y z
     → Plays (begun o) seat choices x (Some next) choices z
 begun_plays None reel seat next choices x y z e s k h p q = absurd (cc)
 begun_plays (Some format) reel seat next choices x y z e s k h p q =
     let r : reel ≡ record { format = format; pictures = 0; finished = None } = cc in
     let s' = s ∙ ap Resting r in
     let h' = h ∙ ap (λ (a : Reel). blank a.format) r in
-    plays_from (begun (Some format)) (λ t. accepted word.New (leaving (playing_in seat) t)) seat choices x (Some next) choices z (tells_then (leaving (playing_in seat)) (accepted word.New) x y z p q)
-    (λ some t. ap (λ (a : Playing). record { store = choices.store; transform = choices.transform; reel = Some a; told = accepted word.New (leaving (playing_in seat) t) })
+    plays_from (begun (Some format)) (λ t. transcribe_done word.New (leaving (playing_in seat) t)) seat choices x (Some next) choices z (transcribes_then (leaving (playing_in seat)) (transcribe_done word.New) x y z p q)
+    (λ some t. ap (λ (a : Playing). record { store = choices.store; transform = choices.transform; reel = Some a; transcribed = transcribe_done word.New (leaving (playing_in seat) t) })
     (λ i. record { setting = setting_at (s' i) (meaning_of (k i)) (h' i); state = state_of (s' i) (h' i) }))
 
 -- What is left to play, rest, is what is left of all that was to be played from a start.

@@ -5,10 +5,10 @@ ghost use Rattle.pictures.specs.Formats.{format_of_number};
 ghost use Rattle.script.specs.Fields.{lines_of};
 ghost use Rattle.script.specs.Lines.{records_meant};
 ghost use Rattle.calls.specs.Runs.{call_of};
-ghost use Rattle.call_lines.specs.Lines.{line_of, told};
-ghost use Rattle.transcripts.specs.Told.{Tells};
+ghost use Rattle.call_lines.specs.Lines.{line_of, line_meant};
+ghost use Rattle.transcripts.specs.Transcribed.{Transcribes};
 ghost use Rattle.seats.specs.Turns.{call_in};
-ghost use Rattle.player.specs.Plays.{ages_on, answers_to, begun, leaving, line_played, make_call, tell_macroblocks, tell_records, told_of};
+ghost use Rattle.player.specs.Plays.{ages_on, answers_to, begun, leaving, line_played, make_call, transcribe_macroblocks, transcribe_records, transcribed_of};
 ghost use Rattle.player.specs.Seen.{Plays, playing_in};
 
 use call_lines::line::{Line, Said, StoreKind, TransformKind, read_line};
@@ -28,7 +28,7 @@ use transcripts::transcript::Transcript;
 // The lines of a script. All are read before the first is played: while a picture may be open nothing is asked for that ends the playing, since its slip has
 // to be handed in.
 fn read_lines(heap: Global, script: &[u8]) -> Result<Vec<Said>, AllocError>
-    ensures { IfOk result (λ lines. map told lines.items ≡ map line_of (lines_of script.now)) }
+    ensures { IfOk result (λ lines. map line_meant lines.items ≡ map line_of (lines_of script.now)) }
 {
     // a loop, and no `try_collect`: its invariant, the lines read before those left, is the whole proof
     let mut lines = Vec::new(heap);
@@ -38,7 +38,7 @@ fn read_lines(heap: Global, script: &[u8]) -> Result<Vec<Said>, AllocError>
     Ok(lines)
 }
 
-// Makes a call on the reel there is, and tells the answer; without a reel it is out of turn. (The seat goes by value from step to step, and not in a struct
+// Makes a call on the reel there is, and transcribes the answer; without a reel it is out of turn. (The seat goes by value from step to step, and not in a struct
 // that is lent: a seat cannot be let go, so none can be put over another.)
 fn make_call(seat: Option<Seat>, call: &Call<&[u8]>, transcript: &mut Transcript) -> Option<Seat>
     ensures { (choices : Choices) → Plays (make_call (call_of call.now)) seat choices transcript.old result choices transcript.new }
@@ -54,7 +54,7 @@ fn make_call(seat: Option<Seat>, call: &Call<&[u8]>, transcript: &mut Transcript
 
 // Leaves the seat of the reel there was, if there was one.
 fn leave(seat: Option<Seat>, transcript: &mut Transcript)
-    ensures { Tells (leaving (playing_in seat)) transcript.old transcript.new }
+    ensures { Transcribes (leaving (playing_in seat)) transcript.old transcript.new }
 {
     if let Some(seat) = seat {
         seat.leave(transcript);
@@ -92,19 +92,19 @@ fn begin(
     }
 }
 
-fn tell_ages(seat: &Option<Seat>, transcript: &mut Transcript)
-    ensures { Tells (ages_on (playing_in seat.now)) transcript.old transcript.new }
+fn transcribe_ages(seat: &Option<Seat>, transcript: &mut Transcript)
+    ensures { Transcribes (ages_on (playing_in seat.now)) transcript.old transcript.new }
 {
     match seat {
-        Some(seat) => seat.tell_ages(transcript),
+        Some(seat) => seat.transcribe_ages(transcript),
         None => transcript.answer(Word::Ages, Answer::OutOfTurn),
     }
 }
 
-// Tells the macroblocks of a delivery.
-fn tell_macroblocks(delivery: Delivery, transcript: &mut Transcript)
+// Transcribes the macroblocks of a delivery.
+fn transcribe_macroblocks(delivery: Delivery, transcript: &mut Transcript)
     requires { length (records_of delivery) < 2 ^ 32 }
-    ensures { Tells (tell_macroblocks 0 (records_of delivery.entry)) transcript.old transcript.new }
+    ensures { Transcribes (transcribe_macroblocks 0 (records_of delivery.entry)) transcript.old transcript.new }
 {
     // a count of its own, and no `enumerate`: the invariant then speaks of the delivery itself
     let mut index = 0;
@@ -117,14 +117,14 @@ fn tell_macroblocks(delivery: Delivery, transcript: &mut Transcript)
     }
 }
 
-// Tells the macroblocks of a delivery and its counts, or its refusal.
-fn tell_records(records: &Records, transcript: &mut Transcript)
-    ensures { Tells (tell_records (records_meant records.now)) transcript.old transcript.new }
+// Transcribes the macroblocks of a delivery and its counts, or its refusal.
+fn transcribe_records(records: &Records, transcript: &mut Transcript)
+    ensures { Transcribes (transcribe_records (records_meant records.now)) transcript.old transcript.new }
 {
     let macroblocks = records.macroblocks as usize;
     match Delivery::checked(records.kind, macroblocks, records.bytes.as_slice()) {
         Ok((delivered, delivery)) => {
-            tell_macroblocks(delivery, transcript);
+            transcribe_macroblocks(delivery, transcript);
             transcript.answer(Word::Records, Answer::Delivered(delivered));
         }
         Err(fault) => {
@@ -143,8 +143,8 @@ fn play_other(
     choices: &mut Choices,
     transcript: &mut Transcript,
 ) -> Option<Seat>
-    requires { call_in (told line.now) ≡ None }
-    ensures { Plays (line_played number (told line.now)) seat choices.old transcript.old result choices.new transcript.new }
+    requires { call_in (line_meant line.now) ≡ None }
+    ensures { Plays (line_played number (line_meant line.now)) seat choices.old transcript.old result choices.new transcript.new }
 {
     match line {
         Ok(Some(Line::Store(kind))) => choices.store = *kind,
@@ -152,8 +152,8 @@ fn play_other(
         Ok(Some(Line::New { format })) => {
             return begin(seat, heap, *format, *choices, transcript);
         }
-        Ok(Some(Line::Ages)) => tell_ages(&seat, transcript),
-        Ok(Some(Line::Records(records))) => tell_records(records, transcript),
+        Ok(Some(Line::Ages)) => transcribe_ages(&seat, transcript),
+        Ok(Some(Line::Records(records))) => transcribe_records(records, transcript),
         Err(mistake) => transcript.add(Misread {
             line: number,
             mistake: *mistake,
@@ -172,7 +172,7 @@ fn play_line(
     choices: &mut Choices,
     transcript: &mut Transcript,
 ) -> Option<Seat>
-    ensures { Plays (line_played number (told line.now)) seat choices.old transcript.old result choices.new transcript.new }
+    ensures { Plays (line_played number (line_meant line.now)) seat choices.old transcript.old result choices.new transcript.new }
 {
     match call_of(line) {
         Some(call) => make_call(seat, &call, transcript),
@@ -182,7 +182,7 @@ fn play_line(
 
 // Plays lines, one after the other.
 fn play_lines(heap: Global, lines: &[Said], store: StoreKind, transcript: &mut Transcript)
-    ensures { Tells (told_of store (map told lines.now)) transcript.old transcript.new }
+    ensures { Transcribes (transcribed_of store (map line_meant lines.now)) transcript.old transcript.new }
 {
     let mut choices = Choices {
         store,

@@ -1,4 +1,4 @@
 pub mod Kept
 pub mod Rows
-pub mod Telling
+pub mod Transcribing
 pub mod Blank

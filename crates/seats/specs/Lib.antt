@@ -1,5 +1,5 @@
 pub mod Seats
 pub mod Copies
-pub mod Tellings
+pub mod Transcriptions
 pub mod Turns
 pub mod Steps

@@ -4,14 +4,14 @@ ghost use Rattle.std.specs.Option.{option_map};
 ghost use Rattle.pictures.specs.Formats.{columns_of, rows_of};
 ghost use Rattle.calls.specs.Runs.{call_of, reply};
 ghost use Rattle.calls.specs.declared.answers.Call.TheVariants.{Age as asking_age};
-ghost use Rattle.call_lines.specs.Lines.{told};
+ghost use Rattle.call_lines.specs.Lines.{line_meant};
 ghost use Rattle.replay.specs.declared.Stage.TheVariants.{Resting};
 ghost use Rattle.transcripts.specs.Tallies.{is_refused, one_more, one_more_if};
-ghost use Rattle.transcripts.specs.Told.{Tells};
+ghost use Rattle.transcripts.specs.Transcribed.{Transcribes};
 ghost use Rattle.seats.specs.Copies.{laid_over, plane_samples, plane_size};
 ghost use Rattle.seats.specs.Seats.{blank, held_by, store_in};
 ghost use Rattle.seats.specs.Steps.{Turned, setting_in, state_in};
-ghost use Rattle.seats.specs.Tellings.{tell_ages, tell_answer, tell_call, tell_leaving, tell_rows, told_age};
+ghost use Rattle.seats.specs.Transcriptions.{transcribe_ages, transcribe_reply, transcribe_call, transcribe_leaving, transcribe_rows, answer_of_age};
 ghost use Rattle.seats.specs.Turns.{call_in};
 
 use crate::copies::copy_table;
@@ -28,7 +28,7 @@ use transcripts::transcript::Transcript;
 
 // The call that a line makes on a reel, if it makes one.
 pub fn call_of(line: &Said) -> Option<Call<&[u8]>>
-    ensures { option_map call_of result ≡ call_in (told line.now) }
+    ensures { option_map call_of result ≡ call_in (line_meant line.now) }
 {
     let Ok(Some(line)) = line else {
         return None;
@@ -65,11 +65,11 @@ pub fn call_of(line: &Said) -> Option<Call<&[u8]>>
     }
 }
 
-// Tells the answer to a call, and the sums of the picture that it closed, which the memory still holds.
-fn tell_answer(call: &Call<&[u8]>, answer: Answer, memory: &StoredMemory, transcript: &mut Transcript)
+// Transcribes the answer to a call, and the sums of the picture that it closed, which the memory still holds.
+fn transcribe_reply(call: &Call<&[u8]>, answer: Answer, memory: &StoredMemory, transcript: &mut Transcript)
     ensures calls { transcript.new.calls ≡ one_more transcript.old.calls }
     ensures refused { transcript.new.refused ≡ one_more_if (is_refused answer) transcript.old.refused }
-    ensures told { Tells (tell_answer (call_of call.now) answer (held_by memory.now)) transcript.old transcript.new }
+    ensures transcribed { Transcribes (transcribe_reply (call_of call.now) answer (held_by memory.now)) transcript.old transcript.new }
 {
     transcript.answer(Word::from(call), answer);
     if let Answer::Closed { .. } = answer {
@@ -110,15 +110,15 @@ impl Seat {
         (seat, answer)
     }
 
-    // Makes one call, and tells the answer.
+    // Makes one call, and transcribes the answer.
     pub fn make_call(self, call: &Call<&[u8]>, transcript: &mut Transcript) -> Seat
         ensures turned { Turned self (call_of call.now) result (reply (setting_in self) (state_in self) (call_of call.now)) }
         ensures calls { transcript.new.calls ≡ one_more transcript.old.calls }
         ensures refused { transcript.new.refused ≡ one_more_if (is_refused (reply (setting_in self) (state_in self) (call_of call.now))) transcript.old.refused }
-        ensures told { Tells (tell_call (setting_in self) (state_in self) (call_of call.now)) transcript.old transcript.new }
+        ensures transcribed { Transcribes (transcribe_call (setting_in self) (state_in self) (call_of call.now)) transcript.old transcript.new }
     {
         let (seat, answer) = self.step(call);
-        tell_answer(call, answer, &seat.memory, transcript);
+        transcribe_reply(call, answer, &seat.memory, transcript);
         seat
     }
 
@@ -140,16 +140,16 @@ impl Seat {
 
     // Whether there is a finished picture, which the question after its first age tells.
     fn check_finished(&self) -> Result<u8, PictureFault>
-        ensures { told_age result ≡ reply (setting_in self.now) (state_in self.now) (asking_age 0 0) }
+        ensures { answer_of_age result ≡ reply (setting_in self.now) (state_in self.now) (asking_age 0 0) }
     {
         self.stage.reel().age(self.memory.ages(), 0, 0)
     }
 
-    // Tells the ages of the finished picture, a row of macroblocks to a line.
-    fn tell_rows(&self, transcript: &mut Transcript)
+    // Transcribes the ages of the finished picture, a row of macroblocks to a line.
+    fn transcribe_rows(&self, transcript: &mut Transcript)
         ensures calls { transcript.new.calls ≡ transcript.old.calls }
         ensures refused { transcript.new.refused ≡ transcript.old.refused }
-        ensures told { Tells (tell_rows (columns_of (setting_in self.now).format) (held_by self.now.memory).finished_ages (rows_of (setting_in self.now).format)) transcript.old transcript.new }
+        ensures transcribed { Transcribes (transcribe_rows (columns_of (setting_in self.now).format) (held_by self.now.memory).finished_ages (rows_of (setting_in self.now).format)) transcript.old transcript.new }
     {
         let format = self.stage.reel().format();
         let columns = format.columns() as usize;
@@ -160,22 +160,22 @@ impl Seat {
         }
     }
 
-    // Tells the age table of the finished picture.
-    pub fn tell_ages(&self, transcript: &mut Transcript)
+    // Transcribes the age table of the finished picture.
+    pub fn transcribe_ages(&self, transcript: &mut Transcript)
         ensures calls { transcript.new.calls ≡ one_more transcript.old.calls }
         ensures refused { transcript.new.refused ≡ one_more_if (is_refused (reply (setting_in self.now) (state_in self.now) (asking_age 0 0))) transcript.old.refused }
-        ensures told { Tells (tell_ages (setting_in self.now) (state_in self.now)) transcript.old transcript.new }
+        ensures transcribed { Transcribes (transcribe_ages (setting_in self.now) (state_in self.now)) transcript.old transcript.new }
     {
         match self.check_finished() {
             Ok(_) => {
                 transcript.accept(Word::Ages);
-                self.tell_rows(transcript);
+                self.transcribe_rows(transcript);
             }
             Err(fault) => transcript.answer(Word::Ages, Answer::Refused(fault)),
         }
     }
 
-    // Leaves the seat and tells nothing. A picture that is still open is closed, as any slip has to be.
+    // Leaves the seat and transcribes nothing. A picture that is still open is closed, as any slip has to be.
     pub fn abandon(self) {
         let Seat {
             stage,
@@ -190,11 +190,11 @@ impl Seat {
         }
     }
 
-    // Leaves the seat. A picture that is still open is closed, which is told and not counted.
+    // Leaves the seat. A picture that is still open is closed, which is transcribed and not counted.
     pub fn leave(self, transcript: &mut Transcript)
         ensures calls { transcript.new.calls ≡ transcript.old.calls }
         ensures refused { transcript.new.refused ≡ transcript.old.refused }
-        ensures told { Tells (tell_leaving (setting_in self) (state_in self)) transcript.old transcript.new }
+        ensures transcribed { Transcribes (transcribe_leaving (setting_in self) (state_in self)) transcript.old transcript.new }
     {
         let Seat {
             stage,

@@ -1,3 +1,3 @@
 pub mod Summed
 pub mod Padded
-pub mod Telling
+pub mod Transcribing

@@ -1,19 +1,19 @@
 -- Sums, a byte at a time.
 use Rattle.std.proofs.Common.{◌≡◌, ℕ, ◌+◌, refl, add-one}
-use Rattle.transcripts.specs.Sums.{row_sum, rows_sum, sum_more}
+use Rattle.transcripts.specs.Sums.{sum_with_row, sum_of_rows, sum_more}
 
-pub row_none : (sample : ℕ → ℕ → ℕ) (down sum : ℕ) → row_sum sample down 0 sum ≡ sum
-unfolding row_sum
+pub row_none : (sample : ℕ → ℕ → ℕ) (down sum : ℕ) → sum_with_row sample down 0 sum ≡ sum
+unfolding sum_with_row
 row_none sample down sum = refl
 
-pub row_more : (sample : ℕ → ℕ → ℕ) (down across sum : ℕ) → row_sum sample down (across + 1) sum ≡ sum_more (row_sum sample down across sum) (sample across down)
-unfolding row_sum
+pub row_more : (sample : ℕ → ℕ → ℕ) (down across sum : ℕ) → sum_with_row sample down (across + 1) sum ≡ sum_more (sum_with_row sample down across sum) (sample across down)
+unfolding sum_with_row
 row_more sample down across sum = rw (add-one across) refl
 
-pub rows_none : (sample : ℕ → ℕ → ℕ) (width : ℕ) → rows_sum sample width 0 ≡ 2166136261
-unfolding rows_sum
+pub rows_none : (sample : ℕ → ℕ → ℕ) (width : ℕ) → sum_of_rows sample width 0 ≡ 2166136261
+unfolding sum_of_rows
 rows_none sample width = refl
 
-pub rows_more : (sample : ℕ → ℕ → ℕ) (width down : ℕ) → rows_sum sample width (down + 1) ≡ row_sum sample down width (rows_sum sample width down)
-unfolding rows_sum
+pub rows_more : (sample : ℕ → ℕ → ℕ) (width down : ℕ) → sum_of_rows sample width (down + 1) ≡ sum_with_row sample down width (sum_of_rows sample width down)
+unfolding sum_of_rows
 rows_more sample width down = rw (add-one down) refl

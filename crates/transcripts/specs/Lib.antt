@@ -2,4 +2,4 @@ pub mod Answers
 pub mod Sums
 pub mod Macroblocks
 pub mod Tallies
-pub mod Told
+pub mod Transcribed

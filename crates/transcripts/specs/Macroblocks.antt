@@ -20,7 +20,7 @@ dc_text block = codes " " ++ decimal (unwrap_or block.dc 0)
 abbrev pub dcs_text : List Block → List ℕ
 dcs_text blocks = flat_map dc_text blocks
 
--- what all are told with that are not skipped
+-- what the line of every one has that is not skipped
 abbrev pub coded_text : ℕ → ℕ → List ℕ
 coded_text quantizer pattern = codes "quantizer " ++ (decimal quantizer ++ (codes " pattern " ++ six_bits pattern))
 

@@ -12,17 +12,17 @@ abbrev pub sum_of : List ℕ → ℕ
 sum_of bytes = fold sum_more 2166136261 bytes
 
 -- of the first samples of a row, after a sum
-unfoldable pub row_sum : (ℕ → ℕ → ℕ) → ℕ → ℕ → ℕ → ℕ
-row_sum sample down zero sum = sum
-row_sum sample down (suc across) sum = sum_more (row_sum sample down across sum) (sample across down)
+unfoldable pub sum_with_row : (ℕ → ℕ → ℕ) → ℕ → ℕ → ℕ → ℕ
+sum_with_row sample down zero sum = sum
+sum_with_row sample down (suc across) sum = sum_more (sum_with_row sample down across sum) (sample across down)
 
 -- of the first rows of a plane so wide
-unfoldable pub rows_sum : (ℕ → ℕ → ℕ) → ℕ → ℕ → ℕ
-rows_sum sample width zero = 2166136261
-rows_sum sample width (suc down) = row_sum sample down width (rows_sum sample width down)
+unfoldable pub sum_of_rows : (ℕ → ℕ → ℕ) → ℕ → ℕ → ℕ
+sum_of_rows sample width zero = 2166136261
+sum_of_rows sample width (suc down) = sum_with_row sample down width (sum_of_rows sample width down)
 
 abbrev pub plane_sum : Picture → ℕ → ℕ
-plane_sum f plane = rows_sum (f.sample plane) (f.wide * side plane) (f.high * side plane)
+plane_sum f plane = sum_of_rows (f.sample plane) (f.wide * side plane) (f.high * side plane)
 
 -- eight hexadecimal digits, with zeros (48) before those of the number
 abbrev pub eight_digits : ℕ → List ℕ

@@ -21,7 +21,7 @@ impl fmt::Display for Bits {
     }
 }
 
-// What all macroblocks are told with that are not skipped.
+// What the line of every macroblock has that is not skipped.
 #[derive(Clone, Copy)]
 struct Coded {
     quantizer: u8,
@@ -76,7 +76,7 @@ impl fmt::Display for Codes<'_> {
     }
 }
 
-// What a macroblock is told as, after its index.
+// What a macroblock's line has after its index.
 #[derive(Clone, Copy)]
 struct Kept<'a> {
     macroblock: &'a Macroblock,

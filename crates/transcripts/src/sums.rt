@@ -1,6 +1,6 @@
 // Sums of 32 bits over bytes: the Fowler-Noll-Vo sum that takes a byte in before it multiplies.
 ghost use Rattle.std.specs.Prelude.{◌≡◌, Some};
-ghost use Rattle.transcripts.specs.Sums.{eight_digits, plane_sum, row_sum, sum_more, sum_of, sums_text};
+ghost use Rattle.transcripts.specs.Sums.{eight_digits, plane_sum, sum_with_row, sum_more, sum_of, sums_text};
 
 use pictures::{Store, side_of};
 use std::fmt;
@@ -24,7 +24,7 @@ pub fn sum_table(cells: &[u8]) -> u32
 
 // A sum with the samples of one row of a plane, from left to right.
 fn sum_row<S: Store>(sum: u32, store: &S, plane: u8, down: usize, width: usize) -> u32
-    ensures { result ≡ row_sum ((S.picture store.now).sample plane) down width sum }
+    ensures { result ≡ sum_with_row ((S.picture store.now).sample plane) down width sum }
 {
     // a `fold` over the range did not prove: the library's lemmas on ranges did not reach the sum of a row
     let mut sum = sum;

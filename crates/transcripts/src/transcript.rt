@@ -5,7 +5,7 @@ ghost use Rattle.std.specs.Result.{result_ok};
 ghost use Rattle.std.specs.Fmt.{option_append};
 ghost use Rattle.transcripts.specs.Answers.{Grown, answer_text, done_text, word_text};
 ghost use Rattle.transcripts.specs.Tallies.{is_refused, one_more, one_more_if};
-ghost use Rattle.transcripts.specs.Told.{Tells, accepted, answered, told_by, with_line};
+ghost use Rattle.transcripts.specs.Transcribed.{Transcribes, transcribe_done, transcribe_answer, transcribed_in, with_line};
 
 use crate::answers::{Answered, Word};
 use calls::answers::Answer;
@@ -76,7 +76,7 @@ impl Transcript {
         ensures refused { self.new.refused ≡ self.old.refused }
         ensures short { IsSome self.new.text → IsSome self.old.text }
         ensures text { IfSome self.new.text (λ t. IfSome self.old.text (λ s. IfSome (option_append (D.Display.output line) (Some (10 ∷ []))) (λ bs. string_bytes t ≡ string_bytes s ++ bs))) }
-        ensures told { (text : List ℕ) → D.Display.output line ≡ Some text → Tells (with_line text) self.old self.new }
+        ensures transcribed { (text : List ℕ) → D.Display.output line ≡ Some text → Transcribes (with_line text) self.old self.new }
     {
         self.push(line);
     }
@@ -98,18 +98,18 @@ impl Transcript {
         ensures calls { self.new.calls ≡ one_more self.old.calls }
         ensures refused { self.new.refused ≡ one_more_if (is_refused answer) self.old.refused }
         ensures text { Grown self.old.text self.new.text (answer_text word answer) }
-        ensures told { Tells (answered word answer) self.old self.new }
+        ensures transcribed { Transcribes (transcribe_answer word answer) self.old self.new }
     {
         self.count(is_refused(answer));
         self.add(Answered { word, answer });
     }
 
-    // Adds that a call was done, where there is nothing to tell of it.
+    // Adds that a call was done, where its answer has no numbers.
     pub fn accept(&mut self, word: Word)
         ensures calls { self.new.calls ≡ one_more self.old.calls }
         ensures refused { self.new.refused ≡ self.old.refused }
         ensures text { Grown self.old.text self.new.text (word_text word ++ codes " ok") }
-        ensures told { Tells (accepted word) self.old self.new }
+        ensures transcribed { Transcribes (transcribe_done word) self.old self.new }
     {
         self.count(false);
         self.add(format_args!("{word} ok"));

@@ -5,18 +5,18 @@ use Rattle.replay.specs.Stages.{format_of, setting_at, state_of}
 use Rattle.transcripts.specs.declared.answers.Word.TheVariants as word
 use Rattle.transcripts.specs.Answers.{answer_text}
 use Rattle.transcripts.specs.Sums.{sums_text}
-use Rattle.transcripts.specs.Told.{Tells}
+use Rattle.transcripts.specs.Transcribed.{Transcribes}
 use Rattle.seats.specs.Seats.{held_by, meaning_of}
-use Rattle.seats.specs.Tellings.{tell_leaving}
-use Rattle.seats.proofs.Telling.{left_told}
+use Rattle.seats.specs.Transcriptions.{transcribe_leaving}
+use Rattle.seats.proofs.Transcribing.{left_transcribed}
 use Rattle.seats.proofs.seat.Seat.leave.Goals as goal
 
-pub returns-clause-told : goal.returns-clause-told
-returns-clause-told c =
+pub returns-clause-transcribed : goal.returns-clause-transcribed
+returns-clause-transcribed c =
     let h = held_by c.args.self.memory in
     let m = meaning_of c.args.self.transform in
     let fit : fits c.in-Open.slip.reel.format h ≡ true = subst (λ s. fits (format_of s) h ≡ true) c.in-Open.is c.args.self.fit in
-    subst (λ s. Tells (tell_leaving (setting_at s m h) (state_of s h)) c.args.transcript.now c.add-in-Open.new.self) (sym c.in-Open.is)
-    (left_told m c.in-Open.slip h (held_by c.close-marks.new.self) c.close-marks.result c.sums.result c.args.transcript.now c.add.new.self c.add-in-Open.new.self
+    subst (λ s. Transcribes (transcribe_leaving (setting_at s m h) (state_of s h)) c.args.transcript.now c.add-in-Open.new.self) (sym c.in-Open.is)
+    (left_transcribed m c.in-Open.slip h (held_by c.close-marks.new.self) c.close-marks.result c.sums.result c.args.transcript.now c.add.new.self c.add-in-Open.new.self
     fit c.close-marks.ensures.marks c.close-marks.ensures.memory c.sums.ensures
-    (c.add.ensures.told (answer_text word.Close (Closed c.close-marks.result)) refl) (c.add-in-Open.ensures.told (sums_text c.sums.result) refl))
+    (c.add.ensures.transcribed (answer_text word.Close (Closed c.close-marks.result)) refl) (c.add-in-Open.ensures.transcribed (sums_text c.sums.result) refl))
