@@ -1,4 +1,7 @@
 // Calls and answers as values, for lists of calls.
+ghost use Rattle.std.specs.Prelude.{◌≡◌, vec_items};
+ghost use Rattle.calls.specs.Runs.{call_of, with_bytes};
+
 use crate::faults::PictureFault;
 use records::types::Delivered;
 
@@ -25,6 +28,43 @@ pub enum Call<B> {
         column: u32,
         row: u32,
     },
+}
+
+impl Call<Vec<u8>> {
+    // The call with its bytes lent, as it is made.
+    pub fn lent(&self) -> Call<&[u8]>
+        ensures { call_of result ≡ with_bytes (λ bytes. vec_items bytes) self.now }
+    {
+        match self {
+            Call::Open {
+                kind,
+                rounding,
+                layout,
+            } => Call::Open {
+                kind: *kind,
+                rounding: *rounding,
+                layout: *layout,
+            },
+            Call::Deliver { segment, bytes } => Call::Deliver {
+                segment: *segment,
+                bytes: bytes.as_slice(),
+            },
+            Call::Close => Call::Close,
+            Call::Sample {
+                plane,
+                across,
+                down,
+            } => Call::Sample {
+                plane: *plane,
+                across: *across,
+                down: *down,
+            },
+            Call::Age { column, row } => Call::Age {
+                column: *column,
+                row: *row,
+            },
+        }
+    }
 }
 
 // What a call is answered. A call is out of turn where the reel rests and a slip is needed, or the other way round.
