@@ -2,6 +2,8 @@
 use Rattle.std.specs.Prelude.{ℕ, zero, suc, cond, List, [], ◌∷◌, ◌++◌, length, get_or, Some, None, Ok, Err, Result, vec_items, codes, Option, ◌==◌}
 use Rattle.std.specs.Str.{bytes_eq}
 use Rattle.std.specs.Option.{option_map}
+use Rattle.calls.specs.declared.answers.Call.TheVariants.{Age as asking_age, Close as closing, Deliver as delivering, Open as opening, Sample as asking_sample}
+use Rattle.calls.specs.Runs.{Calling, with_bytes}
 use Rattle.call_lines.specs.declared.line.Line.{Line}
 use Rattle.call_lines.specs.declared.line.Line.TheVariants as line
 use Rattle.script.specs.declared.line.Mistake.{Mistake}
@@ -20,11 +22,7 @@ pub data Meaning : Type 0 where
   store : StoreKind → Meaning
   transform : TransformKind → Meaning
   new : (format : ℕ) → Meaning
-  opened : (kind rounding layout : ℕ) → Meaning
-  deliver : (segment : ℕ) (bytes : List ℕ) → Meaning
-  close : Meaning
-  sample : (plane across down : ℕ) → Meaning
-  age : (column row : ℕ) → Meaning
+  call : Calling → Meaning
   ages : Meaning
   records : script_lines.RecordsMeaning → Meaning
 
@@ -32,11 +30,7 @@ abbrev pub meant : Line → Meaning
 meant (line.Store kind) = store kind
 meant (line.Transform kind) = transform kind
 meant (line.New format) = new format
-meant (line.Open kind rounding layout) = opened kind rounding layout
-meant (line.Deliver segment bytes) = deliver segment (vec_items bytes)
-meant line.Close = close
-meant (line.Sample plane across down) = sample plane across down
-meant (line.Age column row) = age column row
+meant (line.Call c) = call (with_bytes (λ bytes. vec_items bytes) c)
 meant line.Ages = ages
 meant (line.Records r) = records (script_lines.records_meant r)
 
@@ -78,42 +72,42 @@ abbrev pub new_line_of : List ℕ → Result Meaning Mistake
 new_line_of fields = result_map (λ n. new (get_or n 0 0)) (numbers_in 1 fields)
 
 abbrev pub open_line_of : List ℕ → Result Meaning Mistake
-open_line_of fields = result_map (λ n. opened (get_or n 0 0) (get_or n 1 0) (get_or n 2 0)) (numbers_in 3 fields)
+open_line_of fields = result_map (λ n. call (opening (get_or n 0 0) (get_or n 1 0) (get_or n 2 0))) (numbers_in 3 fields)
 
 abbrev pub sample_line_of : List ℕ → Result Meaning Mistake
-sample_line_of fields = result_map (λ n. sample (get_or n 0 0) (get_or n 1 0) (get_or n 2 0)) (numbers_in 3 fields)
+sample_line_of fields = result_map (λ n. call (asking_sample (get_or n 0 0) (get_or n 1 0) (get_or n 2 0))) (numbers_in 3 fields)
 
 abbrev pub age_line_of : List ℕ → Result Meaning Mistake
-age_line_of fields = result_map (λ n. age (get_or n 0 0) (get_or n 1 0)) (numbers_in 2 fields)
+age_line_of fields = result_map (λ n. call (asking_age (get_or n 0 0) (get_or n 1 0))) (numbers_in 2 fields)
 
 abbrev pub deliver_line_of : List ℕ → Result Meaning Mistake
 deliver_line_of fields =
     with_number fields (λ segment.
     given (bytes_of (field_of (after_field fields))) mistake.Bytes (λ bytes.
-    ended (after_field (after_field fields)) (deliver segment bytes)))
+    ended (after_field (after_field fields)) (call (delivering segment bytes))))
 
 abbrev pub records_line_of : List ℕ → Result Meaning Mistake
 records_line_of fields = result_map records (records_line fields)
 
 -- a line that carries no bytes, by its first word
 abbrev pub plain_line_of : List ℕ → List ℕ → Result Meaning Mistake
-plain_line_of call fields =
-    cond (bytes_eq call (codes "store")) (store_line_of fields)
-    (cond (bytes_eq call (codes "transform")) (transform_line_of fields)
-    (cond (bytes_eq call (codes "new")) (new_line_of fields)
-    (cond (bytes_eq call (codes "open")) (open_line_of fields)
-    (cond (bytes_eq call (codes "close")) (ended fields close)
-    (cond (bytes_eq call (codes "sample")) (sample_line_of fields)
-    (cond (bytes_eq call (codes "age")) (age_line_of fields)
-    (cond (bytes_eq call (codes "ages")) (ended fields ages)
+plain_line_of first fields =
+    cond (bytes_eq first (codes "store")) (store_line_of fields)
+    (cond (bytes_eq first (codes "transform")) (transform_line_of fields)
+    (cond (bytes_eq first (codes "new")) (new_line_of fields)
+    (cond (bytes_eq first (codes "open")) (open_line_of fields)
+    (cond (bytes_eq first (codes "close")) (ended fields (call closing))
+    (cond (bytes_eq first (codes "sample")) (sample_line_of fields)
+    (cond (bytes_eq first (codes "age")) (age_line_of fields)
+    (cond (bytes_eq first (codes "ages")) (ended fields ages)
     (Err mistake.Call))))))))
 
 -- any line, by its first word
 abbrev pub worded : List ℕ → List ℕ → Result Meaning Mistake
-worded call fields =
-    cond (bytes_eq call (codes "deliver")) (deliver_line_of fields)
-    (cond (bytes_eq call (codes "records")) (records_line_of fields)
-    (plain_line_of call fields))
+worded first fields =
+    cond (bytes_eq first (codes "deliver")) (deliver_line_of fields)
+    (cond (bytes_eq first (codes "records")) (records_line_of fields)
+    (plain_line_of first fields))
 
 -- a line, up to a comment; a blank one says nothing
 abbrev pub line_of : List ℕ → Result (Option Meaning) Mistake

@@ -5,6 +5,7 @@ ghost use Rattle.script.specs.Lines.{Says, ended, result_map};
 ghost use Rattle.script.specs.declared.line.Mistake.TheVariants as mistake;
 ghost use Rattle.call_lines.specs.Lines.{age_line_of, deliver_line_of, line_of, meant, new_line_of, numbers_in, open_line_of, plain_line_of, sample_line_of, store_kind_of, store_line_of, line_meant, worded, transform_kind_of, transform_line_of};
 
+use calls::answers::Call;
 use script::fields::{is_text, split_field, without_comment};
 use script::line::{LineError, Mistake, Records, bytes_of, end, records_line};
 use script::numbers::number;
@@ -52,34 +53,14 @@ impl TryFrom<&[u8]> for TransformKind {
     }
 }
 
-// A line: a choice for the reels to come, a new reel, a call on a reel, or bytes that are to be read as the records of a delivery. (The numbers are as
-// they were written: the calls refuse what stands for nothing.)
+// A line: a choice for the reels to come, a new reel, a call on a reel, the question for all ages of the finished picture, or bytes that are to be read as the
+// records of a delivery. (The numbers are as they were written: the calls refuse what stands for nothing.)
 #[derive(Drop)]
 pub enum Line {
     Store(StoreKind),
     Transform(TransformKind),
-    New {
-        format: u32,
-    },
-    Open {
-        kind: u32,
-        rounding: u32,
-        layout: u32,
-    },
-    Deliver {
-        segment: u32,
-        bytes: Vec<u8>,
-    },
-    Close,
-    Sample {
-        plane: u32,
-        across: u32,
-        down: u32,
-    },
-    Age {
-        column: u32,
-        row: u32,
-    },
+    New { format: u32 },
+    Call(Call<Vec<u8>>),
     Ages,
     Records(Records),
 }
@@ -135,11 +116,11 @@ fn open_line(fields: &[u8]) -> Result<Line, Mistake>
     ensures { result_map meant result ≡ open_line_of fields.now }
 {
     let [kind, rounding, layout] = numbers::<3>(fields)?;
-    Ok(Line::Open {
+    Ok(Line::Call(Call::Open {
         kind,
         rounding,
         layout,
-    })
+    }))
 }
 
 // The fields after `sample`.
@@ -147,11 +128,11 @@ fn sample_line(fields: &[u8]) -> Result<Line, Mistake>
     ensures { result_map meant result ≡ sample_line_of fields.now }
 {
     let [plane, across, down] = numbers::<3>(fields)?;
-    Ok(Line::Sample {
+    Ok(Line::Call(Call::Sample {
         plane,
         across,
         down,
-    })
+    }))
 }
 
 // The fields after `age`.
@@ -159,7 +140,7 @@ fn age_line(fields: &[u8]) -> Result<Line, Mistake>
     ensures { result_map meant result ≡ age_line_of fields.now }
 {
     let [column, row] = numbers::<2>(fields)?;
-    Ok(Line::Age { column, row })
+    Ok(Line::Call(Call::Age { column, row }))
 }
 
 // A line that is its first word alone.
@@ -179,7 +160,7 @@ fn deliver_line(heap: Global, fields: &[u8]) -> Result<Line, LineError>
     let segment = number(segment).ok_or(Mistake::Number)?;
     let bytes = bytes_of(heap, bytes)?.ok_or(Mistake::Bytes)?;
     end(rest)?;
-    Ok(Line::Deliver { segment, bytes })
+    Ok(Line::Call(Call::Deliver { segment, bytes }))
 }
 
 // A line that carries no bytes, by its first word.
@@ -196,7 +177,7 @@ fn plain_line(call: &[u8], fields: &[u8]) -> Result<Line, Mistake>
     } else if is_text(call, b"open") {
         open_line(fields)
     } else if is_text(call, b"close") {
-        bare_line(Line::Close, fields)
+        bare_line(Line::Call(Call::Close), fields)
     } else if is_text(call, b"sample") {
         sample_line(fields)
     } else if is_text(call, b"age") {
@@ -244,7 +225,10 @@ mod tests {
     // The number of a delivery's segment, or of the macroblocks of records, and how many bytes there are.
     fn read(heap: Global, line: &[u8]) -> Option<(u32, usize)> {
         match read_line(heap, line) {
-            Ok(Ok(Some(Line::Deliver { segment, bytes }))) => Some((segment, bytes.len())),
+            Ok(Ok(Some(Line::Call(Call::Deliver { segment, bytes })))) => Some((
+                segment,
+                bytes.len(),
+            )),
             Ok(Ok(Some(Line::Records(records)))) => Some((
                 records.macroblocks,
                 records.bytes.len(),

@@ -11,12 +11,11 @@ use Rattle.script.specs.Lines as script_lines
 use Rattle.calls.specs.declared.answers.Answer.TheVariants.{Delivered, OutOfTurn, Refused}
 use Rattle.calls.specs.declared.faults.PictureFault.TheVariants as fault
 use Rattle.calls.specs.Runs.{Calling, Setting, State, setting_of, step}
-use Rattle.calls.specs.declared.answers.Call.TheVariants.{Age as asking_age, Sample as asking_sample, Close as closing, Deliver as delivering, Open as opening}
 use Rattle.calls.specs.Runs as runs
 use Rattle.call_lines.specs.declared.line.StoreKind.{StoreKind}
 use Rattle.call_lines.specs.declared.line.TransformKind.{TransformKind}
 use Rattle.call_lines.specs.declared.line.TransformKind.TheVariants.{TwoPass}
-use Rattle.call_lines.specs.Lines.{Meaning, age, ages, close, deliver, line_of, new, opened, records, sample, store, transform}
+use Rattle.call_lines.specs.Lines.{Meaning, ages, call, line_of, new, records, store, transform}
 use Rattle.transcripts.specs.declared.answers.Word.TheVariants as word
 use Rattle.transcripts.specs.Answers.{done_text, line_after, misread_text}
 use Rattle.transcripts.specs.Macroblocks.{numbered_text}
@@ -94,11 +93,7 @@ abbrev pub played_by : Meaning → Played → Played
 played_by (store kind) p = record { store = kind; transform = p.transform; reel = p.reel; transcribed = p.transcribed }
 played_by (transform kind) p = record { store = p.store; transform = kind; reel = p.reel; transcribed = p.transcribed }
 played_by (new format) p = begun (format_of_number format) p
-played_by (opened kind rounding layout) p = make_call (opening kind rounding layout) p
-played_by (deliver segment bytes) p = make_call (delivering segment bytes) p
-played_by close p = make_call closing p
-played_by (sample plane across down) p = make_call (asking_sample plane across down) p
-played_by (age column row) p = make_call (asking_age column row) p
+played_by (call c) p = make_call c p
 played_by ages p = transcribing (ages_on p.reel) p
 played_by (records r) p = transcribing (transcribe_records r) p
 

@@ -1,5 +1,5 @@
 // Plays the lines of a script one after the other.
-ghost use Rattle.std.specs.Prelude.{◌≡◌, ◌<◌, ◌^◌, length, map, IfOk, None, string_bytes};
+ghost use Rattle.std.specs.Prelude.{◌≡◌, ◌<◌, ◌^◌, length, map, IfOk, string_bytes};
 ghost use Rattle.records.specs.Again.{records_of};
 ghost use Rattle.pictures.specs.Formats.{format_of_number};
 ghost use Rattle.script.specs.Fields.{lines_of};
@@ -7,7 +7,6 @@ ghost use Rattle.script.specs.Lines.{records_meant};
 ghost use Rattle.calls.specs.Runs.{call_of};
 ghost use Rattle.call_lines.specs.Lines.{line_of, line_meant};
 ghost use Rattle.transcripts.specs.Transcribed.{Transcribes};
-ghost use Rattle.seats.specs.Turns.{call_in};
 ghost use Rattle.player.specs.Plays.{ages_on, answers_to, begun, leaving, line_played, make_call, transcribe_macroblocks, transcribe_records, transcribed_of};
 ghost use Rattle.player.specs.Seen.{Plays, playing_in};
 
@@ -18,7 +17,6 @@ use records::checked::Delivery;
 use reel::reels::Reel;
 use script::fields::lines_of;
 use script::line::Records;
-use seats::calling::call_of;
 use seats::seat::{Choices, Seat};
 use std::alloc::{AllocError, Global};
 use transcripts::answers::{Misread, Word};
@@ -134,35 +132,6 @@ fn transcribe_records(records: &Records, transcript: &mut Transcript)
     }
 }
 
-// Plays a line that makes no call on a reel.
-fn play_other(
-    seat: Option<Seat>,
-    heap: Global,
-    number: usize,
-    line: &Said,
-    choices: &mut Choices,
-    transcript: &mut Transcript,
-) -> Option<Seat>
-    requires { call_in (line_meant line.now) ≡ None }
-    ensures { Plays (line_played number (line_meant line.now)) seat choices.old transcript.old result choices.new transcript.new }
-{
-    match line {
-        Ok(Some(Line::Store(kind))) => choices.store = *kind,
-        Ok(Some(Line::Transform(kind))) => choices.transform = *kind,
-        Ok(Some(Line::New { format })) => {
-            return begin(seat, heap, *format, *choices, transcript);
-        }
-        Ok(Some(Line::Ages)) => transcribe_ages(&seat, transcript),
-        Ok(Some(Line::Records(records))) => transcribe_records(records, transcript),
-        Err(mistake) => transcript.add(Misread {
-            line: number,
-            mistake: *mistake,
-        }),
-        _ => {}
-    }
-    seat
-}
-
 // Plays a line.
 fn play_line(
     seat: Option<Seat>,
@@ -174,10 +143,22 @@ fn play_line(
 ) -> Option<Seat>
     ensures { Plays (line_played number (line_meant line.now)) seat choices.old transcript.old result choices.new transcript.new }
 {
-    match call_of(line) {
-        Some(call) => make_call(seat, &call, transcript),
-        None => play_other(seat, heap, number, line, choices, transcript),
+    match line {
+        Ok(Some(Line::Store(kind))) => choices.store = *kind,
+        Ok(Some(Line::Transform(kind))) => choices.transform = *kind,
+        Ok(Some(Line::New { format })) => {
+            return begin(seat, heap, *format, *choices, transcript);
+        }
+        Ok(Some(Line::Call(call))) => return make_call(seat, &call.lent(), transcript),
+        Ok(Some(Line::Ages)) => transcribe_ages(&seat, transcript),
+        Ok(Some(Line::Records(records))) => transcribe_records(records, transcript),
+        Ok(None) => {}
+        Err(mistake) => transcript.add(Misread {
+            line: number,
+            mistake: *mistake,
+        }),
     }
+    seat
 }
 
 // Plays lines, one after the other.

@@ -1,5 +1,4 @@
 pub mod Seats
 pub mod Copies
 pub mod Transcriptions
-pub mod Turns
 pub mod Steps

@@ -1,10 +1,8 @@
 // The calls of a reel in its seat.
 ghost use Rattle.std.specs.Prelude.{◌≡◌, length, IfOk};
-ghost use Rattle.std.specs.Option.{option_map};
 ghost use Rattle.pictures.specs.Formats.{columns_of, rows_of};
 ghost use Rattle.calls.specs.Runs.{call_of, reply};
 ghost use Rattle.calls.specs.declared.answers.Call.TheVariants.{Age as asking_age};
-ghost use Rattle.call_lines.specs.Lines.{line_meant};
 ghost use Rattle.replay.specs.declared.Stage.TheVariants.{Resting};
 ghost use Rattle.transcripts.specs.Tallies.{is_refused, one_more, one_more_if};
 ghost use Rattle.transcripts.specs.Transcribed.{Transcribes};
@@ -12,12 +10,10 @@ ghost use Rattle.seats.specs.Copies.{laid_over, plane_samples, plane_size};
 ghost use Rattle.seats.specs.Seats.{blank, held_by, store_in};
 ghost use Rattle.seats.specs.Steps.{Turned, setting_in, state_in};
 ghost use Rattle.seats.specs.Transcriptions.{transcribe_ages, transcribe_reply, transcribe_call, transcribe_leaving, transcribe_rows, answer_of_age};
-ghost use Rattle.seats.specs.Turns.{call_in};
 
 use crate::copies::copy_table;
 use crate::memories::StoredMemory;
 use crate::seat::{Choices, Seat};
-use call_lines::line::{Line, Said};
 use calls::answers::{Answer, Call};
 use calls::faults::PictureFault;
 use reel::reels::Reel;
@@ -25,45 +21,6 @@ use replay::Stage;
 use std::alloc::{AllocError, Global};
 use transcripts::answers::{AgeRow, Answered, Word};
 use transcripts::transcript::Transcript;
-
-// The call that a line makes on a reel, if it makes one.
-pub fn call_of(line: &Said) -> Option<Call<&[u8]>>
-    ensures { option_map call_of result ≡ call_in (line_meant line.now) }
-{
-    let Ok(Some(line)) = line else {
-        return None;
-    };
-    match line {
-        Line::Open {
-            kind,
-            rounding,
-            layout,
-        } => Some(Call::Open {
-            kind: *kind,
-            rounding: *rounding,
-            layout: *layout,
-        }),
-        Line::Deliver { segment, bytes } => Some(Call::Deliver {
-            segment: *segment,
-            bytes: bytes.as_slice(),
-        }),
-        Line::Close => Some(Call::Close),
-        Line::Sample {
-            plane,
-            across,
-            down,
-        } => Some(Call::Sample {
-            plane: *plane,
-            across: *across,
-            down: *down,
-        }),
-        Line::Age { column, row } => Some(Call::Age {
-            column: *column,
-            row: *row,
-        }),
-        _ => None,
-    }
-}
 
 // Transcribes the answer to a call, and the sums of the picture that it closed, which the memory still holds.
 fn transcribe_reply(call: &Call<&[u8]>, answer: Answer, memory: &StoredMemory, transcript: &mut Transcript)
