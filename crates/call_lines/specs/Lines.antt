@@ -10,8 +10,8 @@ use Rattle.script.specs.declared.line.Mistake.{Mistake}
 use Rattle.script.specs.declared.line.Mistake.TheVariants as mistake
 use Rattle.call_lines.specs.declared.line.StoreKind.{StoreKind}
 use Rattle.call_lines.specs.declared.line.StoreKind.TheVariants as stored
-use Rattle.call_lines.specs.declared.line.TransformKind.{TransformKind}
-use Rattle.call_lines.specs.declared.line.TransformKind.TheVariants as transformed
+use Rattle.transform.specs.declared.kinds.TransformKind.{TransformKind}
+use Rattle.transform.specs.declared.kinds.TransformKind.TheVariants as transformed
 use Rattle.script.specs.Fields.{after_field, field_of, is_hash, up_to}
 use Rattle.script.specs.Numbers.{number_in}
 use Rattle.script.specs.Lines.{bytes_of, ended, given, records_line, result_map}
@@ -42,11 +42,11 @@ line_meant said = result_map (option_map meant) said
 abbrev pub one_of : {X : Type 0} → List ℕ → X → List ℕ → X → List ℕ → Option X
 one_of first x second y field = cond (bytes_eq field first) (Some x) (cond (bytes_eq field second) (Some y) None)
 
-abbrev pub store_kind_of : List ℕ → Option StoreKind
-store_kind_of = one_of (codes "bytes") stored.Bytes (codes "tiles") stored.Tiles
+abbrev pub store_kind_in : List ℕ → Option StoreKind
+store_kind_in = one_of (codes "bytes") stored.Bytes (codes "tiles") stored.Tiles
 
-abbrev pub transform_kind_of : List ℕ → Option TransformKind
-transform_kind_of = one_of (codes "two-pass") transformed.TwoPass (codes "direct") transformed.Direct
+abbrev pub transform_kind_in : List ℕ → Option TransformKind
+transform_kind_in = one_of (codes "two-pass") transformed.TwoPass (codes "direct") transformed.Direct
 
 -- goes on with the number in the first field
 abbrev pub with_number : {X : Type 0} → List ℕ → (ℕ → Result X Mistake) → Result X Mistake
@@ -63,10 +63,10 @@ numbers_in n fields = numbers_after [] n fields
 
 -- each by what stands after its first word
 abbrev pub store_line_of : List ℕ → Result Meaning Mistake
-store_line_of fields = given (store_kind_of (field_of fields)) mistake.Store (λ kind. ended (after_field fields) (store kind))
+store_line_of fields = given (store_kind_in (field_of fields)) mistake.Store (λ kind. ended (after_field fields) (store kind))
 
 abbrev pub transform_line_of : List ℕ → Result Meaning Mistake
-transform_line_of fields = given (transform_kind_of (field_of fields)) mistake.Transform (λ kind. ended (after_field fields) (transform kind))
+transform_line_of fields = given (transform_kind_in (field_of fields)) mistake.Transform (λ kind. ended (after_field fields) (transform kind))
 
 abbrev pub new_line_of : List ℕ → Result Meaning Mistake
 new_line_of fields = result_map (λ n. new (get_or n 0 0)) (numbers_in 1 fields)
@@ -91,23 +91,23 @@ records_line_of fields = result_map records (records_line fields)
 
 -- a line that carries no bytes, by its first word
 abbrev pub plain_line_of : List ℕ → List ℕ → Result Meaning Mistake
-plain_line_of first fields =
-    cond (bytes_eq first (codes "store")) (store_line_of fields)
-    (cond (bytes_eq first (codes "transform")) (transform_line_of fields)
-    (cond (bytes_eq first (codes "new")) (new_line_of fields)
-    (cond (bytes_eq first (codes "open")) (open_line_of fields)
-    (cond (bytes_eq first (codes "close")) (ended fields (call closing))
-    (cond (bytes_eq first (codes "sample")) (sample_line_of fields)
-    (cond (bytes_eq first (codes "age")) (age_line_of fields)
-    (cond (bytes_eq first (codes "ages")) (ended fields ages)
+plain_line_of word fields =
+    cond (bytes_eq word (codes "store")) (store_line_of fields)
+    (cond (bytes_eq word (codes "transform")) (transform_line_of fields)
+    (cond (bytes_eq word (codes "new")) (new_line_of fields)
+    (cond (bytes_eq word (codes "open")) (open_line_of fields)
+    (cond (bytes_eq word (codes "close")) (ended fields (call closing))
+    (cond (bytes_eq word (codes "sample")) (sample_line_of fields)
+    (cond (bytes_eq word (codes "age")) (age_line_of fields)
+    (cond (bytes_eq word (codes "ages")) (ended fields ages)
     (Err mistake.Call))))))))
 
 -- any line, by its first word
 abbrev pub worded : List ℕ → List ℕ → Result Meaning Mistake
-worded first fields =
-    cond (bytes_eq first (codes "deliver")) (deliver_line_of fields)
-    (cond (bytes_eq first (codes "records")) (records_line_of fields)
-    (plain_line_of first fields))
+worded word fields =
+    cond (bytes_eq word (codes "deliver")) (deliver_line_of fields)
+    (cond (bytes_eq word (codes "records")) (records_line_of fields)
+    (plain_line_of word fields))
 
 -- a line, up to a comment; a blank one says nothing
 abbrev pub line_of : List ℕ → Result (Option Meaning) Mistake

@@ -3,13 +3,14 @@ ghost use Rattle.std.specs.Prelude.{◌≡◌, ℕ, IfOk, vec_items, codes};
 ghost use Rattle.std.specs.Option.{ok_or};
 ghost use Rattle.script.specs.Lines.{Says, ended, result_map};
 ghost use Rattle.script.specs.declared.line.Mistake.TheVariants as mistake;
-ghost use Rattle.call_lines.specs.Lines.{age_line_of, deliver_line_of, line_of, meant, new_line_of, numbers_in, open_line_of, plain_line_of, sample_line_of, store_kind_of, store_line_of, line_meant, worded, transform_kind_of, transform_line_of};
+ghost use Rattle.call_lines.specs.Lines.{age_line_of, deliver_line_of, line_meant, line_of, meant, new_line_of, numbers_in, open_line_of, plain_line_of, sample_line_of, store_kind_in, store_line_of, transform_kind_in, transform_line_of, worded};
 
 use calls::answers::Call;
 use script::fields::{is_text, split_field, without_comment};
 use script::line::{LineError, Mistake, Records, bytes_of, end, records_line};
 use script::numbers::number;
 use std::alloc::{AllocError, Global};
+use transform::TransformKind;
 
 // How the samples of the reels to come are stored.
 #[derive(Clone, Copy)]
@@ -21,7 +22,7 @@ pub enum StoreKind {
 impl TryFrom<&[u8]> for StoreKind {
     type Error = Mistake;
 
-    ghost try_from_gives = { λ field r. r ≡ ok_or (store_kind_of field.now) mistake.Store };
+    ghost try_from_gives = { λ field r. r ≡ ok_or (store_kind_in field.now) mistake.Store };
 
     fn try_from(field: &[u8]) -> Result<StoreKind, Mistake> {
         match field {
@@ -32,24 +33,14 @@ impl TryFrom<&[u8]> for StoreKind {
     }
 }
 
-// By which inverse transform the reels to come rebuild their pictures.
-#[derive(Clone, Copy)]
-pub enum TransformKind {
-    TwoPass,
-    Direct,
-}
-
-impl TryFrom<&[u8]> for TransformKind {
-    type Error = Mistake;
-
-    ghost try_from_gives = { λ field r. r ≡ ok_or (transform_kind_of field.now) mistake.Transform };
-
-    fn try_from(field: &[u8]) -> Result<TransformKind, Mistake> {
-        match field {
-            b"two-pass" => Ok(TransformKind::TwoPass),
-            b"direct" => Ok(TransformKind::Direct),
-            _ => Err(Mistake::Transform),
-        }
+// The inverse transform that a field names, for the reels to come. (No `TryFrom`, since neither the kind nor the field's type is this crate's.)
+fn transform_kind_in(field: &[u8]) -> Option<TransformKind>
+    ensures { result ≡ transform_kind_in field.now }
+{
+    match field {
+        b"two-pass" => Some(TransformKind::TwoPass),
+        b"direct" => Some(TransformKind::Direct),
+        _ => None,
     }
 }
 
@@ -98,7 +89,7 @@ fn transform_line(fields: &[u8]) -> Result<Line, Mistake>
     ensures { result_map meant result ≡ transform_line_of fields.now }
 {
     let (kind, rest) = split_field(fields);
-    let kind = TransformKind::try_from(kind)?;
+    let kind = transform_kind_in(kind).ok_or(Mistake::Transform)?;
     end(rest)?;
     Ok(Line::Transform(kind))
 }
@@ -164,25 +155,25 @@ fn deliver_line(heap: Global, fields: &[u8]) -> Result<Line, LineError>
 }
 
 // A line that carries no bytes, by its first word.
-fn plain_line(call: &[u8], fields: &[u8]) -> Result<Line, Mistake>
-    ensures { result_map meant result ≡ plain_line_of call.now fields.now }
+fn plain_line(word: &[u8], fields: &[u8]) -> Result<Line, Mistake>
+    ensures { result_map meant result ≡ plain_line_of word.now fields.now }
 {
     // no `match` on the words' bytes: what it says at `_` stayed open, over some forty ways that lead there
-    if is_text(call, b"store") {
+    if is_text(word, b"store") {
         store_line(fields)
-    } else if is_text(call, b"transform") {
+    } else if is_text(word, b"transform") {
         transform_line(fields)
-    } else if is_text(call, b"new") {
+    } else if is_text(word, b"new") {
         new_line(fields)
-    } else if is_text(call, b"open") {
+    } else if is_text(word, b"open") {
         open_line(fields)
-    } else if is_text(call, b"close") {
+    } else if is_text(word, b"close") {
         bare_line(Line::Call(Call::Close), fields)
-    } else if is_text(call, b"sample") {
+    } else if is_text(word, b"sample") {
         sample_line(fields)
-    } else if is_text(call, b"age") {
+    } else if is_text(word, b"age") {
         age_line(fields)
-    } else if is_text(call, b"ages") {
+    } else if is_text(word, b"ages") {
         bare_line(Line::Ages, fields)
     } else {
         Err(Mistake::Call)
@@ -190,15 +181,15 @@ fn plain_line(call: &[u8], fields: &[u8]) -> Result<Line, Mistake>
 }
 
 // A line by its first word. (No `match` on its bytes: tried for a single word, what is said at `_` stayed open.)
-fn worded_line(heap: Global, call: &[u8], fields: &[u8]) -> Result<Line, LineError>
-    ensures { Says meant result (worded call.now fields.now) }
+fn worded_line(heap: Global, word: &[u8], fields: &[u8]) -> Result<Line, LineError>
+    ensures { Says meant result (worded word.now fields.now) }
 {
-    if is_text(call, b"deliver") {
+    if is_text(word, b"deliver") {
         deliver_line(heap, fields)
-    } else if is_text(call, b"records") {
+    } else if is_text(word, b"records") {
         Ok(Line::Records(records_line(heap, fields)?))
     } else {
-        Ok(plain_line(call, fields)?)
+        Ok(plain_line(word, fields)?)
     }
 }
 
@@ -206,11 +197,11 @@ fn worded_line(heap: Global, call: &[u8], fields: &[u8]) -> Result<Line, LineErr
 pub fn read_line(heap: Global, line: &[u8]) -> Result<Said, AllocError>
     ensures { IfOk result (λ said. line_meant said ≡ line_of line.now) }
 {
-    let (call, fields) = split_field(without_comment(line));
-    if call.is_empty() {
+    let (word, fields) = split_field(without_comment(line));
+    if word.is_empty() {
         return Ok(Ok(None));
     }
-    match worded_line(heap, call, fields) {
+    match worded_line(heap, word, fields) {
         Ok(line) => Ok(Ok(Some(line))),
         Err(LineError::Wrong(mistake)) => Ok(Err(mistake)),
         Err(LineError::OutOfMemory) => Err(AllocError),

@@ -7,8 +7,8 @@ use Rattle.calls.specs.Runs.{new}
 use Rattle.replay.specs.Stages.{format_of}
 use Rattle.call_lines.specs.declared.line.StoreKind.{StoreKind}
 use Rattle.call_lines.specs.declared.line.StoreKind.TheVariants as store
-use Rattle.call_lines.specs.declared.line.TransformKind.{TransformKind}
-use Rattle.call_lines.specs.declared.line.TransformKind.TheVariants as transform
+use Rattle.transform.specs.declared.kinds.TransformKind.{TransformKind}
+use Rattle.transform.specs.declared.kinds.TransformKind.TheVariants as transform
 use Rattle.seats.specs.declared.seat.Choices.{Choices}
 use Rattle.seats.specs.Seats.{blank, held_by, store_in}
 use Rattle.handles.specs.declared.answer.AnswerNumbers.{AnswerNumbers}

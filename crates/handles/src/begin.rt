@@ -10,11 +10,12 @@ use crate::answer::AnswerNumbers;
 use crate::handle::ReelHandle;
 use crate::kept::KeptReel;
 use crate::loose::Loose;
-use call_lines::line::{StoreKind, TransformKind};
+use call_lines::line::StoreKind;
 use calls::answers::Answer;
 use reel::reels::Reel;
 use seats::seat::{Choices, Seat};
 use std::alloc::Global;
+use transform::TransformKind;
 
 // The store that a number names, if it names one.
 fn store_of(number: u32) -> Option<StoreKind>

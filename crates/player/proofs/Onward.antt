@@ -8,7 +8,7 @@ use Rattle.script.specs.declared.line.Mistake.{Mistake}
 use Rattle.script.specs.Fields.{lines_of}
 use Rattle.call_lines.specs.declared.line.Line.{Line}
 use Rattle.call_lines.specs.declared.line.StoreKind.{StoreKind}
-use Rattle.call_lines.specs.declared.line.TransformKind.TheVariants.{TwoPass}
+use Rattle.transform.specs.declared.kinds.TransformKind.TheVariants.{TwoPass}
 use Rattle.call_lines.specs.Lines.{line_of, line_meant}
 use Rattle.transcripts.specs.declared.transcript.Transcript.{Transcript}
 use Rattle.transcripts.specs.Answers.{Grown, done_text, line_after}

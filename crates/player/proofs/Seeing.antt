@@ -15,7 +15,8 @@ use Rattle.replay.specs.declared.Stage.TheVariants.{Resting}
 use Rattle.replay.specs.Stages.{setting_at, state_of}
 use Rattle.transcripts.specs.declared.answers.Word.TheVariants as word
 use Rattle.transcripts.proofs.Transcribing.{transcribes_then}
-use Rattle.seats.specs.Seats.{blank, held_by, meaning_of}
+use Rattle.seats.specs.Seats.{blank, held_by}
+use Rattle.transform.specs.Kinds.{meaning_of}
 use Rattle.player.specs.Plays.{Played, Playing, begun, leaving, make_call, transcribing}
 use Rattle.player.specs.Seen.{Plays, playing_in, seen}
 

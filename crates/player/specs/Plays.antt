@@ -13,14 +13,15 @@ use Rattle.calls.specs.declared.faults.PictureFault.TheVariants as fault
 use Rattle.calls.specs.Runs.{Calling, Setting, State, setting_of, step}
 use Rattle.calls.specs.Runs as runs
 use Rattle.call_lines.specs.declared.line.StoreKind.{StoreKind}
-use Rattle.call_lines.specs.declared.line.TransformKind.{TransformKind}
-use Rattle.call_lines.specs.declared.line.TransformKind.TheVariants.{TwoPass}
+use Rattle.transform.specs.declared.kinds.TransformKind.{TransformKind}
+use Rattle.transform.specs.declared.kinds.TransformKind.TheVariants.{TwoPass}
 use Rattle.call_lines.specs.Lines.{Meaning, ages, call, line_of, new, records, store, transform}
 use Rattle.transcripts.specs.declared.answers.Word.TheVariants as word
 use Rattle.transcripts.specs.Answers.{done_text, line_after, misread_text}
 use Rattle.transcripts.specs.Macroblocks.{numbered_text}
 use Rattle.transcripts.specs.Transcribed.{Transcribed, transcribe_done, transcribe_answer, with_line}
-use Rattle.seats.specs.Seats.{blank, meaning_of}
+use Rattle.seats.specs.Seats.{blank}
+use Rattle.transform.specs.Kinds.{meaning_of}
 use Rattle.seats.specs.Transcriptions.{miss_call, transcribe_ages, transcribe_call, transcribe_leaving}
 
 -- the reel there is: what is the same throughout its run, and the state that it is in

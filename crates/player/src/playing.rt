@@ -10,7 +10,7 @@ ghost use Rattle.transcripts.specs.Transcribed.{Transcribes};
 ghost use Rattle.player.specs.Plays.{ages_on, answers_to, begun, leaving, line_played, make_call, transcribe_macroblocks, transcribe_records, transcribed_of};
 ghost use Rattle.player.specs.Seen.{Plays, playing_in};
 
-use call_lines::line::{Line, Said, StoreKind, TransformKind, read_line};
+use call_lines::line::{Line, Said, StoreKind, read_line};
 use calls::answers::{Answer, Call};
 use calls::faults::PictureFault;
 use records::checked::Delivery;
@@ -22,6 +22,7 @@ use std::alloc::{AllocError, Global};
 use transcripts::answers::{Misread, Word};
 use transcripts::macroblocks::Numbered;
 use transcripts::transcript::Transcript;
+use transform::TransformKind;
 
 // The lines of a script. All are read before the first is played: while a picture may be open nothing is asked for that ends the playing, since its slip has
 // to be handed in.

@@ -8,8 +8,9 @@ use Rattle.calls.specs.Runs.{Calling, State, setting_of, step}
 use Rattle.calls.proofs.Sizes.{same_setting}
 use Rattle.replay.specs.declared.Stage.{Stage}
 use Rattle.replay.specs.Stages.{NoneWrites, Replayed, control_of, format_of, setting_at, state_of, writes}
-use Rattle.call_lines.specs.declared.line.TransformKind.{TransformKind}
-use Rattle.seats.specs.Seats.{Made, meaning_of}
+use Rattle.transform.specs.declared.kinds.TransformKind.{TransformKind}
+use Rattle.seats.specs.Seats.{Made}
+use Rattle.transform.specs.Kinds.{meaning_of}
 
 module _ (meaning : List ℤ → ℕ → ℕ → ℤ) (stage stage' : Stage) (held held' : Held) (c : Calling)
     (s : state_of stage' held' ≡ step (setting_at stage meaning held) (state_of stage held) c) (f : format_of stage' ≡ format_of stage) where

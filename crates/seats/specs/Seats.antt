@@ -1,6 +1,6 @@
 -- A reel with the memory that the script chose for it.
-use Rattle.std.specs.Prelude.{◌≡◌, ℕ, Bool, false, List, None, ℤ, pos, replicate, vec_items}
-use Rattle.transform.specs.Inverse.{direct, two_pass}
+use Rattle.std.specs.Prelude.{◌≡◌, ℕ, Bool, false, List, None, pos, replicate, vec_items}
+use Rattle.transform.specs.Kinds.{meaning_of}
 use Rattle.pictures.specs.declared.formats.Format.{Format}
 use Rattle.motion.specs.declared.vectors.Vector.{Vector}
 use Rattle.pictures.specs.Formats.{columns_of, rows_of}
@@ -17,8 +17,7 @@ use Rattle.reel.specs.Memories.{held_in}
 use Rattle.replay.specs.Stages.{format_of, setting_at, state_of}
 use Rattle.call_lines.specs.declared.line.StoreKind.{StoreKind}
 use Rattle.call_lines.specs.declared.line.StoreKind.TheVariants as store
-use Rattle.call_lines.specs.declared.line.TransformKind.{TransformKind}
-use Rattle.call_lines.specs.declared.line.TransformKind.TheVariants.{TwoPass, Direct}
+use Rattle.transform.specs.declared.kinds.TransformKind.{TransformKind}
 use Rattle.transcripts.specs.declared.sums.PictureSums.{PictureSums}
 use Rattle.transcripts.specs.Sums.{plane_sum, sum_of}
 use Rattle.seats.specs.declared.memories.StoredMemory.{StoredMemory}
@@ -40,11 +39,6 @@ seated stage memory = fits (format_of stage) (held_by memory)
 -- the sums of the finished picture
 abbrev pub sums_of : Held → PictureSums
 sums_of h = record { luma = plane_sum h.finished 0; cb = plane_sum h.finished 1; cr = plane_sum h.finished 2; ages = sum_of h.finished_ages }
-
--- what the transform of a name means
-abbrev pub meaning_of : TransformKind → List ℤ → ℕ → ℕ → ℤ
-meaning_of TwoPass = two_pass
-meaning_of Direct = direct
 
 -- a stage, what its memory holds and an answer are those of one call; format, transform and sizes are as they were, and so is the very stage where the
 -- call is not accepted

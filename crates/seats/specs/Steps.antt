@@ -5,7 +5,8 @@ use Rattle.calls.specs.Laws.{granted}
 use Rattle.calls.specs.Runs.{Calling, reply, Setting, State, step}
 use Rattle.replay.specs.Stages.{setting_at, state_of, writes}
 use Rattle.seats.specs.declared.seat.Seat.{Seat}
-use Rattle.seats.specs.Seats.{held_by, meaning_of}
+use Rattle.seats.specs.Seats.{held_by}
+use Rattle.transform.specs.Kinds.{meaning_of}
 
 -- its format, the meaning of its transform, and that its memory has its size
 abbrev pub setting_in : Seat → Setting

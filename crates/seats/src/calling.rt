@@ -23,7 +23,12 @@ use transcripts::answers::{AgeRow, Answered, Word};
 use transcripts::transcript::Transcript;
 
 // Transcribes the answer to a call, and the sums of the picture that it closed, which the memory still holds.
-fn transcribe_reply(call: &Call<&[u8]>, answer: Answer, memory: &StoredMemory, transcript: &mut Transcript)
+fn transcribe_reply(
+    call: &Call<&[u8]>,
+    answer: Answer,
+    memory: &StoredMemory,
+    transcript: &mut Transcript,
+)
     ensures calls { transcript.new.calls ≡ one_more transcript.old.calls }
     ensures refused { transcript.new.refused ≡ one_more_if (is_refused answer) transcript.old.refused }
     ensures transcribed { Transcribes (transcribe_reply (call_of call.now) answer (held_by memory.now)) transcript.old transcript.new }

@@ -1,17 +1,17 @@
 // The memory of a reel, in the store that the script chose.
-ghost use Rattle.std.specs.Prelude.{◌≡◌, true, false, length, take, IfOk};
+ghost use Rattle.std.specs.Prelude.{◌≡◌, true, false, IfOk};
 ghost use Rattle.calls.specs.Effects.{picture_closed};
 ghost use Rattle.calls.specs.Held.{fits};
-ghost use Rattle.calls.specs.Runs.{call_of, calls_of};
+ghost use Rattle.calls.specs.Runs.{call_of};
 ghost use Rattle.reel.specs.Memories.{held_in};
-ghost use Rattle.replay.specs.Stages.{NoneWrites, Replayed, format_of, writes};
+ghost use Rattle.replay.specs.Stages.{format_of, writes};
 ghost use Rattle.stores.specs.Bytes.{bytes_seen};
 ghost use Rattle.stores.specs.Tiles.{tiles_seen};
 ghost use Rattle.seats.specs.Copies.{laid_over, plane_samples, plane_size};
-ghost use Rattle.seats.specs.Seats.{Made, Tabled, blank, blank_picture, held_by, meaning_of, seated, store_in, sums_of};
+ghost use Rattle.seats.specs.Seats.{Made, Tabled, blank, blank_picture, held_by, seated, store_in, sums_of};
 
 use crate::copies::copy_plane;
-use call_lines::line::{StoreKind, TransformKind};
+use call_lines::line::StoreKind;
 use calls::answers::{Answer, Call};
 use motion::vectors::Vector;
 use pictures::{Format, Store};
@@ -21,7 +21,7 @@ use replay::{Stage, replay};
 use std::alloc::{AllocError, Global};
 use stores::{ByteStore, TileStore};
 use transcripts::sums::{PictureSums, sum_plane, sum_table};
-use transform::{Direct, TwoPass};
+use transform::TransformKind;
 
 // A memory in bytes or in tiles. (Two arms in each method, and no type parameter: which store it is, is known only as the script is read.)
 #[derive(Drop)]
@@ -66,29 +66,8 @@ fn with_tables<S: Drop>(
     })
 }
 
-// Makes calls by the transform that the script chose, which is known only as it is read: so two arms. (Stage, memory and calls come from three places, and
-// a struct of them would be made for this one call. That the memory has the reel's size, which a seat holds, is asked here and below, since a seat is taken apart
-// while a call is made.)
-fn replay_by<S: Store>(
-    stage: Stage,
-    memory: &mut Memory<S>,
-    transform: TransformKind,
-    calls: &[Call<&[u8]>],
-    answers: &mut [Answer],
-) -> Stage
-    requires { fits (format_of stage) (held_in S.picture memory.old) ≡ true }
-    ensures size { fits (format_of result) (held_in S.picture memory.new) ≡ true }
-    ensures format { format_of result ≡ format_of stage }
-    ensures runs { Replayed (meaning_of transform) stage (held_in S.picture memory.old) (calls_of (take (length answers.old) calls.now)) result (held_in S.picture memory.new) (take (length calls.now) answers.new) }
-    ensures untouched { NoneWrites (take (length calls.now) answers.new) → memory.new ≡ memory.old }
-{
-    match transform {
-        TransformKind::TwoPass => replay(stage, memory, &TwoPass, calls, answers),
-        TransformKind::Direct => replay(stage, memory, &Direct, calls, answers),
-    }
-}
-
-// Makes one call: a list of one, with room for its answer.
+// Makes one call: a list of one, with room for its answer. (Stage, memory and call come from three places, and a struct of them would be made for this one
+// call. That the memory has the reel's size, which a seat holds, is asked here and below, since a seat is taken apart while a call is made.)
 fn step_by<S: Store>(
     stage: Stage,
     memory: &mut Memory<S>,
@@ -101,7 +80,7 @@ fn step_by<S: Store>(
     ensures untouched { writes result.1 ≡ false → memory.new ≡ memory.old }
 {
     let mut answers = [Answer::OutOfTurn];
-    let stage = replay_by(stage, memory, transform, &[*call], &mut answers);
+    let stage = replay(stage, memory, &transform, &[*call], &mut answers);
     (stage, answers[0])
 }
 
@@ -151,7 +130,12 @@ impl StoredMemory {
     }
 
     // Makes one call.
-    pub fn step(&mut self, stage: Stage, transform: TransformKind, call: &Call<&[u8]>) -> (Stage, Answer)
+    pub fn step(
+        &mut self,
+        stage: Stage,
+        transform: TransformKind,
+        call: &Call<&[u8]>,
+    ) -> (Stage, Answer)
         requires { seated stage self.old ≡ true }
         ensures size { seated result.0 self.new ≡ true }
         ensures made { Made transform stage (held_by self.old) (call_of call.now) result.0 (held_by self.new) result.1 }

@@ -3,8 +3,9 @@ ghost use Rattle.std.specs.Prelude.{◌≡◌, true};
 ghost use Rattle.seats.specs.Seats.{seated};
 
 use crate::memories::StoredMemory;
-use call_lines::line::{StoreKind, TransformKind};
+use call_lines::line::StoreKind;
 use replay::Stage;
+use transform::TransformKind;
 
 // What the script chose for the reels to come.
 #[derive(Clone, Copy)]

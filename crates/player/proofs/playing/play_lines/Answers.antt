@@ -1,5 +1,5 @@
 use Rattle.std.proofs.Common.{None}
-use Rattle.call_lines.specs.declared.line.TransformKind.TheVariants.{TwoPass}
+use Rattle.transform.specs.declared.kinds.TransformKind.TheVariants.{TwoPass}
 use Rattle.player.proofs.Onward.{all_played, played}
 use Rattle.player.proofs.playing.play_lines.Goals as goal
 

@@ -1,4 +1,6 @@
+use Rattle.std.proofs.Common.{ap, ◌∙◌}
 use Rattle.calls.specs.declared.answers.Answer.TheVariants.{Opened}
+use Rattle.calls.specs.Held.{fits}
 use Rattle.calls.specs.Runs.{call_of}
 use Rattle.reel.specs.Memories.{held_in}
 use Rattle.seats.proofs.Kept.{made, unwritten}
@@ -7,11 +9,11 @@ use Rattle.seats.proofs.memories.step_by.Goals as goal
 pub returns : goal.returns
 returns g c =
     let held = held_in g.S.Store.picture c.args.memory.now in
-    let after = held_in g.S.Store.picture c.replay_by-stage.new.memory in
+    let after = held_in g.S.Store.picture c.replay-stage.new.memory in
     let call = call_of c.args.call.now in
-    let e = c.replay_by-stage.ensures in
+    let e = c.replay-stage.ensures in
     record {
-      size = e.size;
-      made = made c.args.transform c.args.stage c.replay_by-stage.result held after call c.replay_by-stage.new.answers (Opened 0) e.runs e.format;
-      untouched = λ none. e.untouched (unwritten c.args.transform c.args.stage c.replay_by-stage.result held after call c.replay_by-stage.new.answers (Opened 0) e.runs none);
+      size = ap (λ format. fits format after) e.format ∙ e.size ∙ c.requires;
+      made = made c.args.transform c.args.stage c.replay-stage.result held after call c.replay-stage.new.answers (Opened 0) e.runs e.format;
+      untouched = λ none. e.untouched (unwritten c.args.transform c.args.stage c.replay-stage.result held after call c.replay-stage.new.answers (Opened 0) e.runs none);
     }

@@ -6,7 +6,8 @@ use Rattle.transcripts.specs.declared.answers.Word.TheVariants as word
 use Rattle.transcripts.specs.Answers.{answer_text}
 use Rattle.transcripts.specs.Sums.{sums_text}
 use Rattle.transcripts.specs.Transcribed.{Transcribes}
-use Rattle.seats.specs.Seats.{held_by, meaning_of}
+use Rattle.seats.specs.Seats.{held_by}
+use Rattle.transform.specs.Kinds.{meaning_of}
 use Rattle.seats.specs.Transcriptions.{transcribe_leaving}
 use Rattle.seats.proofs.Transcribing.{left_transcribed}
 use Rattle.seats.proofs.seat.Seat.leave.Goals as goal

@@ -1,6 +1,6 @@
 use Rattle.std.proofs.Common.{◌≡◌, codes, refl, arith}
 use Rattle.call_lines.proofs.Words.{spelled}
-use Rattle.call_lines.proofs.line.TransformKindTryFromRefSliceU8.try_from.Goals as goal
+use Rattle.call_lines.proofs.line.transform_kind_in.Goals as goal
 
 pub returns-in-direct : goal.returns-in-direct
 returns-in-direct c =
