@@ -7,9 +7,9 @@ ghost use Rattle.std.specs.Borrow.{sem};
 ghost use denote.RawPtr.{null_ptr};
 ghost use Rattle.calls.specs.declared.answers.Call.TheVariants.{Age as asking_age, Sample as asking_sample, Close as closing, Deliver as delivering, Open as opening};
 ghost use Rattle.pictures.specs.Formats.{format_of_number};
-ghost use Rattle.handles.specs.Handles.{Answered, ages_at, finished_at, slot_owns};
+ghost use Rattle.handles.specs.Handles.{Answered, ages_behind, finished_behind, slot_owns};
 ghost use Rattle.seats.specs.Copies.{laid_over, plane_samples, plane_size};
-ghost use Rattle.handles.specs.Begun.{Begun, choices_of};
+ghost use Rattle.handles.specs.Begun.{Begun, choices_numbered};
 ghost use Rattle.handles.specs.declared.handle.ReelHandle.{ReelHandle as Handle};
 
 use calls::answers::Call;
@@ -17,12 +17,12 @@ use handles::answer::AnswerNumbers;
 use handles::begin::begin;
 use handles::calling::release;
 use handles::handle::ReelHandle;
-use handles::loose::Loose;
+use handles::raw_box::RawBox;
 use handles::slot::ReelSlot;
 use std::alloc::Global;
 
-// Begins a reel, and puts its pointer where `reel` points. Where that is not accepted it leaves the place as it was. (That nothing is held there before is
-// asked so that nothing is lost: of a place that C did not fill it holds.)
+// Begins a reel, and puts its pointer where `reel` points. Where that is not accepted it leaves the place as it was. (That no handle lies behind it before
+// is asked so that none is lost: so it is of a place that C did not fill.)
 #[unsafe(no_mangle)]
 pub extern "C" fn desktern_new(
     heap: Global,
@@ -32,14 +32,14 @@ pub extern "C" fn desktern_new(
     reel: &mut ReelSlot,
     answer: &mut AnswerNumbers,
 )
-    requires { reel.old.held ≡ None }
-    ensures begun { Begun (format_of_number format) (choices_of store transform) reel.new.held answer.new }
-    ensures left { reel.new.held ≡ None → reel.new ≡ reel.old }
+    requires { reel.old.handle ≡ None }
+    ensures begun { Begun (format_of_number format) (choices_numbered store transform) reel.new.handle answer.new }
+    ensures left { reel.new.handle ≡ None → reel.new ≡ reel.old }
 {
     match begin(heap, format, store, transform) {
-        Ok(loose) => {
-            *reel = ReelSlot::of(loose);
-            *answer = AnswerNumbers::accepted(0, 0);
+        Ok(raw) => {
+            *reel = ReelSlot::of(raw);
+            *answer = AnswerNumbers::outcome_accepted(0, 0);
         }
         Err(told) => {
             *answer = told;
@@ -47,18 +47,18 @@ pub extern "C" fn desktern_new(
     }
 }
 
-// Gives a reel's memory back, and does nothing where nothing is held: the pointer is null then. A picture that is open is closed first, since a slip has to be
+// Gives a reel's memory back, and does nothing where there is none: the pointer is null then. A picture that is open is closed first, since a slip has to be
 // handed in.
 #[unsafe(no_mangle)]
 pub unsafe extern "C" fn desktern_free(heap: Global, reel: *mut ReelHandle)
-    ghost held: { Option Handle }
-    requires null { held ≡ None → reel ≡ null_ptr }
-    requires* owned { sem 𝓛 (slot_owns reel held) }
+    ghost handle: { Option Handle }
+    requires null { handle ≡ None → reel ≡ null_ptr }
+    requires* owned { sem 𝓛 (slot_owns reel handle) }
 {
     if reel.is_null() {
         return;
     }
-    release(Loose {
+    release(RawBox {
         at: reel,
         alloc: heap,
     });
@@ -137,8 +137,8 @@ pub extern "C" fn desktern_age(
 // Copies a plane of the finished picture, row by row from the top, and tells how many samples it has. A shorter buffer stays as it is.
 #[unsafe(no_mangle)]
 pub extern "C" fn desktern_plane(reel: &mut ReelHandle, plane: u32, samples: &mut [u8]) -> usize
-    ensures size { result ≡ plane_size (finished_at reel.old) plane }
-    ensures samples { samples.new ≡ laid_over (plane_size (finished_at reel.old) plane) (plane_samples (finished_at reel.old) plane) samples.old }
+    ensures size { result ≡ plane_size (finished_behind reel.old) plane }
+    ensures samples { samples.new ≡ laid_over (plane_size (finished_behind reel.old) plane) (plane_samples (finished_behind reel.old) plane) samples.old }
     ensures reel { reel.new ≡ reel.old }
 {
     reel.copy_plane(plane, samples)
@@ -147,8 +147,8 @@ pub extern "C" fn desktern_plane(reel: &mut ReelHandle, plane: u32, samples: &mu
 // Copies the ages of the finished picture in raster order, in the same way.
 #[unsafe(no_mangle)]
 pub extern "C" fn desktern_ages(reel: &mut ReelHandle, ages: &mut [u8]) -> usize
-    ensures size { result ≡ length (ages_at reel.old) }
-    ensures ages { ages.new ≡ laid_over (length (ages_at reel.old)) (ages_at reel.old) ages.old }
+    ensures size { result ≡ length (ages_behind reel.old) }
+    ensures ages { ages.new ≡ laid_over (length (ages_behind reel.old)) (ages_behind reel.old) ages.old }
     ensures reel { reel.new ≡ reel.old }
 {
     reel.copy_ages(ages)

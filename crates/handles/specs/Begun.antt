@@ -13,48 +13,48 @@ use Rattle.seats.specs.declared.seat.Choices.{Choices}
 use Rattle.seats.specs.Seats.{blank, held_by, store_in}
 use Rattle.handles.specs.declared.answer.AnswerNumbers.{AnswerNumbers}
 use Rattle.handles.specs.declared.handle.ReelHandle.{ReelHandle}
-use Rattle.handles.specs.declared.loose.Loose.{Loose}
-use Rattle.handles.specs.Handles.{state_at}
-use Rattle.handles.specs.Numbers.{accepted, no_memory, numbers_of, unknown_choice}
+use Rattle.handles.specs.declared.raw_box.RawBox.{RawBox}
+use Rattle.handles.specs.Handles.{state_behind}
+use Rattle.handles.specs.Numbers.{numbers_of, outcome_accepted, outcome_no_memory, outcome_unknown_choice}
 
 -- the store and the transform that a number names: 0 and 1 name one, and no other does
-abbrev pub store_of : ℕ → Option StoreKind
-store_of n = cond (n == 0) (Some store.Bytes) (cond (n == 1) (Some store.Tiles) None)
+abbrev pub store_numbered : ℕ → Option StoreKind
+store_numbered n = cond (n == 0) (Some store.Bytes) (cond (n == 1) (Some store.Tiles) None)
 
-abbrev pub transform_of : ℕ → Option TransformKind
-transform_of n = cond (n == 0) (Some transform.TwoPass) (cond (n == 1) (Some transform.Direct) None)
+abbrev pub transform_numbered : ℕ → Option TransformKind
+transform_numbered n = cond (n == 0) (Some transform.TwoPass) (cond (n == 1) (Some transform.Direct) None)
 
 -- the choices of two numbers, where each names one
-abbrev pub both : Option StoreKind → Option TransformKind → Option Choices
-both (Some s) (Some t) = Some (record { store = s; transform = t })
-both (Some s) None = None
-both None t = None
+abbrev pub chosen : Option StoreKind → Option TransformKind → Option Choices
+chosen (Some s) (Some t) = Some (record { store = s; transform = t })
+chosen (Some s) None = None
+chosen None t = None
 
-abbrev pub choices_of : ℕ → ℕ → Option Choices
-choices_of kind number = both (store_of kind) (transform_of number)
+abbrev pub choices_numbered : ℕ → ℕ → Option Choices
+choices_numbered kind number = chosen (store_numbered kind) (transform_numbered number)
 
 -- behind a handle is a new reel of a format, with the store and the transform that were chosen and a memory of zeros and absent marks
 pub record Fresh (f : Format) (choices : Choices) (h : ReelHandle) : Type 0 where
-  pub state : state_at h ≡ new (held_by h.kept.seat.memory)
+  pub state : state_behind h ≡ new (held_by h.kept.seat.memory)
   pub format : format_of h.kept.seat.stage ≡ f
   pub store : store_in h.kept.seat.memory ≡ choices.store
   pub transform : h.kept.seat.transform ≡ choices.transform
   pub blank : held_by h.kept.seat.memory ≡ blank (format_of h.kept.seat.stage)
 
--- What is held then, and what is answered. A number that names no format is refused, whatever is chosen; of a format, a choice that is not known has an outcome
--- of its own; and where memory fails nothing is held.
+-- What handle there is then, and what is answered. A number that names no format is refused, whatever is chosen; of a format, a choice that is not known has an outcome
+-- of its own; and where memory fails there is no handle.
 abbrev pub Begun : Option Format → Option Choices → Option ReelHandle → AnswerNumbers → Type 0
 Begun None choices None a = a ≡ numbers_of (Refused fault.Format)
-Begun (Some format) None None a = a ≡ unknown_choice
-Begun (Some format) (Some choices) None a = a ≡ no_memory
-Begun (Some format) (Some choices) (Some h) a = Fresh format choices h × (a ≡ accepted 0 0)
+Begun (Some format) None None a = a ≡ outcome_unknown_choice
+Begun (Some format) (Some choices) None a = a ≡ outcome_no_memory
+Begun (Some format) (Some choices) (Some h) a = Fresh format choices h × (a ≡ outcome_accepted 0 0)
 Begun (Some format) None (Some h) a = ⊥
 Begun None choices (Some h) a = ⊥
 
-abbrev pub handle_in : {A : Type 0} → Result (Loose ReelHandle A) AnswerNumbers → Option ReelHandle
+abbrev pub handle_in : {A : Type 0} → Result (RawBox ReelHandle A) AnswerNumbers → Option ReelHandle
 handle_in (Ok l) = Some l.value
 handle_in (Err n) = None
 
-abbrev pub answer_in : {A : Type 0} → Result (Loose ReelHandle A) AnswerNumbers → AnswerNumbers
-answer_in (Ok l) = accepted 0 0
+abbrev pub answer_in : {A : Type 0} → Result (RawBox ReelHandle A) AnswerNumbers → AnswerNumbers
+answer_in (Ok l) = outcome_accepted 0 0
 answer_in (Err n) = n

@@ -21,7 +21,7 @@ use Rattle.handles.specs.Numbers.{numbers_of}
 abbrev pub handle_owned : Ptr → ReelHandle → Fml
 handle_owned p h = box_owns (allocator.dealloc_token h.alloc) handle_row p h
 
--- what a place for a pointer owns: nothing where nothing is held
+-- what a place for a pointer owns: nothing where no handle lies behind it
 abbrev pub slot_owns : Ptr → Option ReelHandle → Fml
 slot_owns p None = ftrue
 slot_owns p (Some h) = handle_owned p h
@@ -35,25 +35,25 @@ abbrev pub LendsKept : MutBor ReelHandle → MutBor KeptReel → Fml
 LendsKept h r = Lends handle_row kept_row h r (with_kept h.now)
 
 -- the reel behind a handle, and what its memory holds
-abbrev pub state_at : ReelHandle → State
-state_at h = state_in h.kept.seat
+abbrev pub state_behind : ReelHandle → State
+state_behind h = state_in h.kept.seat
 
 -- its format, the meaning of its transform, and that its memory has its size
-abbrev pub setting_at : ReelHandle → Setting
-setting_at h = setting_in h.kept.seat
+abbrev pub setting_behind : ReelHandle → Setting
+setting_behind h = setting_in h.kept.seat
 
 -- the finished picture of its memory, and the ages of that
-abbrev pub finished_at : ReelHandle → Picture
-finished_at h = (state_at h).contents.held.finished
+abbrev pub finished_behind : ReelHandle → Picture
+finished_behind h = (state_behind h).contents.held.finished
 
-abbrev pub ages_at : ReelHandle → List ℕ
-ages_at h = (state_at h).contents.held.finished_ages
+abbrev pub ages_behind : ReelHandle → List ℕ
+ages_behind h = (state_behind h).contents.held.finished_ages
 
 -- What one call makes of what lies behind a handle, and its answer in numbers. The very stage stays where the call is not accepted, and the very memory where
 -- nothing is written.
 pub record Answered (h : ReelHandle) (call : Calling) (h' : ReelHandle) (numbers : AnswerNumbers) : Type 0 where
-  pub state : state_at h' ≡ step (setting_at h) (state_at h) call
-  pub answer : numbers ≡ numbers_of (reply (setting_at h) (state_at h) call)
-  pub setting : setting_at h' ≡ setting_at h
-  pub stays : granted (reply (setting_at h) (state_at h) call) ≡ false → h'.kept.seat.stage ≡ h.kept.seat.stage
-  pub untouched : writes (reply (setting_at h) (state_at h) call) ≡ false → h'.kept.seat.memory ≡ h.kept.seat.memory
+  pub state : state_behind h' ≡ step (setting_behind h) (state_behind h) call
+  pub answer : numbers ≡ numbers_of (reply (setting_behind h) (state_behind h) call)
+  pub setting : setting_behind h' ≡ setting_behind h
+  pub stays : granted (reply (setting_behind h) (state_behind h) call) ≡ false → h'.kept.seat.stage ≡ h.kept.seat.stage
+  pub untouched : writes (reply (setting_behind h) (state_behind h) call) ≡ false → h'.kept.seat.memory ≡ h.kept.seat.memory

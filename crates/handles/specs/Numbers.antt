@@ -16,12 +16,12 @@ layer_number layer.Block = 3
 layer_number layer.Segment = 4
 
 -- the five outcomes: 0 accepted, 1 refused, 2 out of turn, 3 no memory, 4 unknown choice
-abbrev pub accepted : ℕ → ℕ → AnswerNumbers
-accepted first second =
+abbrev pub outcome_accepted : ℕ → ℕ → AnswerNumbers
+outcome_accepted first second =
     record { outcome = 0; number = 0; layer = 0; block = 0; word = 0; macroblock = 0; first = first; second = second }
 
-abbrev pub refused : Refusal → AnswerNumbers
-refused r =
+abbrev pub outcome_refused : Refusal → AnswerNumbers
+outcome_refused r =
     record {
       outcome = 1;
       number = r.number;
@@ -33,20 +33,20 @@ refused r =
       second = 0;
     }
 
-abbrev pub out_of_turn : AnswerNumbers
-out_of_turn = record { outcome = 2; number = 0; layer = 0; block = 0; word = 0; macroblock = 0; first = 0; second = 0 }
+abbrev pub outcome_out_of_turn : AnswerNumbers
+outcome_out_of_turn = record { outcome = 2; number = 0; layer = 0; block = 0; word = 0; macroblock = 0; first = 0; second = 0 }
 
-abbrev pub no_memory : AnswerNumbers
-no_memory = record { outcome = 3; number = 0; layer = 0; block = 0; word = 0; macroblock = 0; first = 0; second = 0 }
+abbrev pub outcome_no_memory : AnswerNumbers
+outcome_no_memory = record { outcome = 3; number = 0; layer = 0; block = 0; word = 0; macroblock = 0; first = 0; second = 0 }
 
-abbrev pub unknown_choice : AnswerNumbers
-unknown_choice = record { outcome = 4; number = 0; layer = 0; block = 0; word = 0; macroblock = 0; first = 0; second = 0 }
+abbrev pub outcome_unknown_choice : AnswerNumbers
+outcome_unknown_choice = record { outcome = 4; number = 0; layer = 0; block = 0; word = 0; macroblock = 0; first = 0; second = 0 }
 
 abbrev pub numbers_of : Answer → AnswerNumbers
-numbers_of (answer.Opened segments) = accepted segments 0
-numbers_of (answer.Delivered d) = accepted d.words d.intra
-numbers_of (answer.Closed marks) = accepted marks 0
-numbers_of (answer.Sample value) = accepted value 0
-numbers_of (answer.Age age) = accepted age 0
-numbers_of (answer.Refused f) = refused (picture_refusal f)
-numbers_of answer.OutOfTurn = out_of_turn
+numbers_of (answer.Opened segments) = outcome_accepted segments 0
+numbers_of (answer.Delivered d) = outcome_accepted d.words d.intra
+numbers_of (answer.Closed marks) = outcome_accepted marks 0
+numbers_of (answer.Sample value) = outcome_accepted value 0
+numbers_of (answer.Age age) = outcome_accepted age 0
+numbers_of (answer.Refused f) = outcome_refused (picture_refusal f)
+numbers_of answer.OutOfTurn = outcome_out_of_turn

@@ -1,6 +1,6 @@
 // Answers in numbers.
 ghost use Rattle.std.specs.Prelude.{◌≡◌};
-ghost use Rattle.handles.specs.Numbers.{accepted, layer_number, no_memory, numbers_of, out_of_turn, refused, unknown_choice};
+ghost use Rattle.handles.specs.Numbers.{layer_number, numbers_of, outcome_accepted, outcome_no_memory, outcome_out_of_turn, outcome_refused, outcome_unknown_choice};
 
 use calls::answers::Answer;
 use records::faults::{Layer, Refusal};
@@ -45,8 +45,8 @@ const PLAIN: AnswerNumbers = AnswerNumbers {
 };
 
 impl AnswerNumbers {
-    pub fn accepted(first: u64, second: u64) -> AnswerNumbers
-        ensures { result ≡ accepted first second }
+    pub fn outcome_accepted(first: u64, second: u64) -> AnswerNumbers
+        ensures { result ≡ outcome_accepted first second }
     {
         AnswerNumbers {
             first,
@@ -55,8 +55,8 @@ impl AnswerNumbers {
         }
     }
 
-    fn refused(refusal: Refusal) -> AnswerNumbers
-        ensures { result ≡ refused refusal }
+    fn outcome_refused(refusal: Refusal) -> AnswerNumbers
+        ensures { result ≡ outcome_refused refusal }
     {
         AnswerNumbers {
             outcome: 1,
@@ -69,8 +69,8 @@ impl AnswerNumbers {
         }
     }
 
-    fn out_of_turn() -> AnswerNumbers
-        ensures { result ≡ out_of_turn }
+    fn outcome_out_of_turn() -> AnswerNumbers
+        ensures { result ≡ outcome_out_of_turn }
     {
         AnswerNumbers {
             outcome: 2,
@@ -78,8 +78,8 @@ impl AnswerNumbers {
         }
     }
 
-    pub fn no_memory() -> AnswerNumbers
-        ensures { result ≡ no_memory }
+    pub fn outcome_no_memory() -> AnswerNumbers
+        ensures { result ≡ outcome_no_memory }
     {
         AnswerNumbers {
             outcome: 3,
@@ -87,8 +87,8 @@ impl AnswerNumbers {
         }
     }
 
-    pub fn unknown_choice() -> AnswerNumbers
-        ensures { result ≡ unknown_choice }
+    pub fn outcome_unknown_choice() -> AnswerNumbers
+        ensures { result ≡ outcome_unknown_choice }
     {
         AnswerNumbers {
             outcome: 4,
@@ -102,15 +102,15 @@ impl From<Answer> for AnswerNumbers {
 
     fn from(answer: Answer) -> AnswerNumbers {
         match answer {
-            Answer::Opened { segments } => AnswerNumbers::accepted(u64::from(segments), 0),
+            Answer::Opened { segments } => AnswerNumbers::outcome_accepted(u64::from(segments), 0),
             Answer::Delivered(delivered) => {
-                AnswerNumbers::accepted(delivered.words as u64, delivered.intra as u64)
+                AnswerNumbers::outcome_accepted(delivered.words as u64, delivered.intra as u64)
             }
-            Answer::Closed { marks } => AnswerNumbers::accepted(u64::from(marks), 0),
-            Answer::Sample(value) => AnswerNumbers::accepted(u64::from(value), 0),
-            Answer::Age(age) => AnswerNumbers::accepted(u64::from(age), 0),
-            Answer::Refused(fault) => AnswerNumbers::refused(fault.refusal()),
-            Answer::OutOfTurn => AnswerNumbers::out_of_turn(),
+            Answer::Closed { marks } => AnswerNumbers::outcome_accepted(u64::from(marks), 0),
+            Answer::Sample(value) => AnswerNumbers::outcome_accepted(u64::from(value), 0),
+            Answer::Age(age) => AnswerNumbers::outcome_accepted(u64::from(age), 0),
+            Answer::Refused(fault) => AnswerNumbers::outcome_refused(fault.refusal()),
+            Answer::OutOfTurn => AnswerNumbers::outcome_out_of_turn(),
         }
     }
 }

@@ -3,12 +3,12 @@ ghost use Rattle.std.specs.Prelude.{◌≡◌, length};
 ghost use Rattle.std.specs.Borrow.{sem};
 ghost use Rattle.calls.specs.Runs.{call_of};
 ghost use Rattle.seats.specs.Copies.{laid_over, plane_samples, plane_size};
-ghost use Rattle.handles.specs.Handles.{Answered, LendsKept, ages_at, finished_at};
+ghost use Rattle.handles.specs.Handles.{Answered, LendsKept, ages_behind, finished_behind};
 
 use crate::answer::AnswerNumbers;
 use crate::handle::ReelHandle;
 use crate::kept::KeptReel;
-use crate::loose::Loose;
+use crate::raw_box::RawBox;
 use calls::answers::Call;
 use std::alloc::Global;
 
@@ -23,8 +23,8 @@ impl ReelHandle {
 
     // Copies a plane of the finished picture, row by row from the top, to a buffer that has room for it, and tells how many samples it has.
     pub fn copy_plane(&mut self, plane: u32, samples: &mut [u8]) -> usize
-        ensures size { result ≡ plane_size (finished_at self.old) plane }
-        ensures samples { samples.new ≡ laid_over (plane_size (finished_at self.old) plane) (plane_samples (finished_at self.old) plane) samples.old }
+        ensures size { result ≡ plane_size (finished_behind self.old) plane }
+        ensures samples { samples.new ≡ laid_over (plane_size (finished_behind self.old) plane) (plane_samples (finished_behind self.old) plane) samples.old }
         ensures handle { self.new ≡ self.old }
     {
         self.kept().seat.copy_plane(plane, samples)
@@ -32,8 +32,8 @@ impl ReelHandle {
 
     // Copies the ages of the finished picture to a buffer that has room for them, and tells how many there are.
     pub fn copy_ages(&mut self, ages: &mut [u8]) -> usize
-        ensures size { result ≡ length (ages_at self.old) }
-        ensures ages { ages.new ≡ laid_over (length (ages_at self.old)) (ages_at self.old) ages.old }
+        ensures size { result ≡ length (ages_behind self.old) }
+        ensures ages { ages.new ≡ laid_over (length (ages_behind self.old)) (ages_behind self.old) ages.old }
         ensures handle { self.new ≡ self.old }
     {
         self.kept().seat.copy_ages(ages)
@@ -49,6 +49,6 @@ impl ReelHandle {
 }
 
 // Gives a handle's memory back, and all that it owns.
-pub fn release(loose: Loose<ReelHandle, Global>) {
-    drop(loose.into_box());
+pub fn release(raw: RawBox<ReelHandle, Global>) {
+    drop(raw.into_box());
 }

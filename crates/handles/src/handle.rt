@@ -6,7 +6,7 @@ ghost use Rattle.handles.specs.declared.kept.KeptReel.{KeptReel as Kept};
 ghost use Rattle.handles.specs.contracts.kept.KeptReel.{the_row as kept_row};
 
 use crate::kept::KeptReel;
-use crate::loose::Loose;
+use crate::raw_box::RawBox;
 use std::alloc::Global;
 use std::marker::{Model, Send};
 
@@ -24,21 +24,21 @@ impl Model for ReelHandle {
 }
 
 impl ReelHandle {
-    pub fn of(loose: Loose<KeptReel, Global>) -> ReelHandle
-        ensures { result.kept ≡ loose.value }
+    pub fn of(raw: RawBox<KeptReel, Global>) -> ReelHandle
+        ensures { result.kept ≡ raw.value }
     {
-        let Loose { at, alloc } = loose;
+        let RawBox { at, alloc } = raw;
         ReelHandle {
             at: at as *mut u8,
             alloc,
         }
     }
 
-    fn into_loose(self) -> Loose<KeptReel, Global>
+    fn into_raw(self) -> RawBox<KeptReel, Global>
         ensures { result.value ≡ self.kept }
     {
         let ReelHandle { at, alloc } = self;
-        Loose {
+        RawBox {
             at: at as *mut KeptReel,
             alloc,
         }
@@ -47,8 +47,8 @@ impl ReelHandle {
 
 impl Drop for ReelHandle {
     fn drop(self) {
-        let loose = self.into_loose();
-        drop(loose.into_box());
+        let raw = self.into_raw();
+        drop(raw.into_box());
     }
 }
 

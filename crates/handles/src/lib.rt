@@ -7,5 +7,5 @@ pub mod begin;
 pub mod calling;
 pub mod handle;
 pub mod kept;
-pub mod loose;
+pub mod raw_box;
 pub mod slot;

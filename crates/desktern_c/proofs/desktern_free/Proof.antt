@@ -38,7 +38,7 @@ use Rattle.std.proofs.alloc.Global.TheLaws as heap_laws
 use Rattle.std.specs.contracts.impls.GlobalAllocator.TheImpl.{ghosts}
 use Rattle.handles.specs.Handles.{handle_owned, slot_owns}
 use Rattle.handles.specs.contracts.handle.ReelHandle as handle
-use Rattle.handles.proofs.Values.{heap_al, both, loose_good, loose_in}
+use Rattle.handles.proofs.Values.{heap_al, two_words, raw_box_good, raw_box_in}
 use Rattle.handles.specs.contracts.calling.release as callee
 use Rattle.handles.proofs.calling.release.Met.{met}
 use Rattle.desktern_c.specs.contracts.desktern_free.{ended, clauses, requires-null}
@@ -51,8 +51,8 @@ R = handle.the_row
 
 module _ {M : Type 1} {𝓤 : Ura M} {𝓛 : Logic 𝓤} {K : Type 0} {Γ : List (Item 𝓤)} {G : Goal 𝓤 𝓛.H} where
   -- what C gives back is null, or a handle lies there whose pointer may be compared with null
-  given_back : K → (p : Ptr) (held : Option R.Denot) → (held ≡ None → p ≡ null_ptr) → (p ≡ null_ptr → Seq K 𝓛 Γ G)
-      → ((b o : ℕ) (x : R.Denot) → p ≡ block_ptr b o → Testable (block_ptr b o) → Seq K 𝓛 (‵ (handle_owned (block_ptr b o) x) ∷ Γ) G) → Seq K 𝓛 (‵ (slot_owns p held) ∷ Γ) G
+  given_back : K → (p : Ptr) (behind : Option R.Denot) → (behind ≡ None → p ≡ null_ptr) → (p ≡ null_ptr → Seq K 𝓛 Γ G)
+      → ((b o : ℕ) (x : R.Denot) → p ≡ block_ptr b o → Testable (block_ptr b o) → Seq K 𝓛 (‵ (handle_owned (block_ptr b o) x) ∷ Γ) G) → Seq K 𝓛 (‵ (slot_owns p behind) ∷ Γ) G
   given_back t p None null none one = drop t $ none (null refl)
   given_back t p (Some x) null none one =
       in_a_block t p (λ q. handle_owned q x) (fst∗ 𝓤 (never 𝓤) (sem 𝓛 (ghosts.dealloc_token x.alloc (bare (lone R.mir)) null_ptr))) (λ b o e.
@@ -67,17 +67,17 @@ desktern_free_spec 𝓤 𝓛 𝓜 𝓡 wired =
     let En = ended in let c = clauses 𝓛 𝓜.mem 𝓡.returns in let fn : Fn = code.function in
     let hs : Stays En.signature.params En.kept = (stay_dropped (plain (λ _. Z)) yes, (stay_dropped (plain (λ _. RawPtr)) yes, tt)) in
     proved_at 𝓛 En hs c 𝓜 𝓡 (Goes-dropped 𝓛 0 (plain (λ _. Z)) yes (λ κs x f. refl), (Goes-dropped 𝓛 0 (plain (λ _. RawPtr)) yes (λ κs x f. refl), tt)) #self fn (code.unfolded 𝓤 H 𝓜 𝓡 wired) (λ z are.
-    let a = z.0.3.0 in let p = z.0.3.1.0 in let us = z.0.4.0 in let vs = z.0.4.1.0 in let held = z.1 in
+    let a = z.0.3.0 in let p = z.0.3.1.0 in let us = z.0.4.0 in let vs = z.0.4.1.0 in let behind = z.1 in
     let Post : Val → SProp 𝓤 = (walk_of 𝓛 En hs c).post z in let Run : List Val → SProp 𝓤 = λ ws. WpFn 𝓤 H 𝓣.C 𝓣.Λ fn ws Post in
     let toks = raw (alive 𝓛 En.signature z.0.0 z.0.1) in
     let out : Sq 𝓛 (toks ∷ []) (prop (Post vunit)) =
     nothing ! $ feq_i ! (List Val) (vunit ∷ []) (vunit ∷ []) refl $ nothing ! $ nothing ! $ fjoin ! $ nothing ! $ fjoin ! $ move ! (3 ∷ []) $
     by ! (leaves 𝓛 En hs c z vunit tt (tt, (tt, tt)) (tt, (tt, tt))) in
-    qed 𝓛 ((toks ⊛ ‵ (owns (types_at En.signature.params z.0.0) z.0.3 z.0.4)) ∷ (raw (requires-null 𝓛 z.0.0 𝓜.mem 𝓡.returns a p held) ⊛ ‵ (slot_owns p held)) ∷ []) ∵ split ! $ move ! (1 ∷ []) $ fsplit ! $
+    qed 𝓛 ((toks ⊛ ‵ (owns (types_at En.signature.params z.0.0) z.0.3 z.0.4)) ∷ (raw (requires-null 𝓛 z.0.0 𝓜.mem 𝓡.returns a p behind) ⊛ ‵ (slot_owns p behind)) ∷ []) ∵ split ! $ move ! (1 ∷ []) $ fsplit ! $
     handle_tells heap_al ! a us (λ h eh fits. move ! (1 ∷ []) $ fsplit ! $ feq_l ! (λ ev. drop ! $ move ! (2 ∷ []) $ split ! $ heard ! _ (λ null.
     let runs : (w : Val) → vs ≡ w ∷ [] → ent 𝓤 (Run (h ∷ w ∷ [])) (Run (us ++ (vs ++ []))) = λ w is. subst (λ (ts : List Val). ent 𝓤 (Run (h ∷ w ∷ [])) (Run ts)) (sym (λ i. eh i ++ (is i ++ []))) (id⊢ 𝓤 (Run (h ∷ w ∷ []))) in
-    given_back ! p held null
-    -- nothing is held
+    given_back ! p behind null
+    -- there is no handle
     (λ e. drop ! $
     suffices ! (Run (h ∷ vnull ∷ [])) (runs vnull (ev ∙ ap (λ (q : Ptr). ptr_val q ∷ []) e)) $
     enter ! 𝓣.C 𝓣.Λ fn (h ∷ vnull ∷ []) Post $ alloc_all ! (λ l. pass_all ! refl (fits, ((tt, record { fits = lit< tt }), tt)) $
@@ -87,7 +87,7 @@ desktern_free_spec 𝓤 𝓛 𝓜 𝓡 wired =
     (λ t. absurd t)))
     -- a handle is
     (λ b o x e may.
-    let w : Val = both (vptr b o) h in let typed = loose_good R Z LZ ghosts b o h fits in
+    let w : Val = two_words (vptr b o) h in let typed = raw_box_good R Z LZ ghosts b o h fits in
     let k = triple_of 𝓛 callee.signature (callee.spec 𝓛 𝓜.mem 𝓡.returns) in
     let y : k.Ghost = ((tt, tt, tt, (record { at = block_ptr b o; alloc = a; value = x }, tt), (w ∷ [], tt)), tt) in
     suffices ! (Run (h ∷ vptr b o ∷ [])) (runs (vptr b o) (ev ∙ ap (λ (q : Ptr). ptr_val q ∷ []) e)) $
@@ -96,7 +96,7 @@ desktern_free_spec 𝓤 𝓛 𝓜 𝓡 wired =
     first ! $ branches ! (get ! refl) (λ t. absurd t)
     (λ t. skips ! $ exec ! 𝓣.C 𝓣.Λ (env fn.locals l) code.Mir.t-3 (at_ret (env fn.locals l) Post) $
     sets ! (agg ! (and_then ! (get ! refl) (and_then ! (get ! refl) (no_more !)))) refl typed $
-    loose_in R Z LZ ghosts ! b o h a x $
+    raw_box_in R Z LZ ghosts ! b o h a x $
     -- [the box; the tokens], and then what `release` is handed
     nothing ! $ move ! (1 ∷ 0 ∷ []) $ fjoin ! $ nothing ! $ join ! $ nothing ! $ move ! (1 ∷ 0 ∷ []) $ join ! $ use1 𝓛 (raw (k.pre y)) (id⊢ 𝓤 _) $
     calls_at ! (fm 𝓛 𝓜 𝓡) k (met 𝓤 𝓛 𝓜 𝓡 (code.calls-handles::calling::release 𝓡.env wired)) y (and_then ! (get ! refl) (no_more !)) (λ u.

@@ -34,7 +34,7 @@ use Rattle.handles.specs.declared.kept.KeptReel.{KeptReel}
 use Rattle.handles.specs.Handles.{with_kept}
 use Rattle.handles.specs.contracts.kept.KeptReel as kept
 use Rattle.handles.specs.contracts.handle.ReelHandle as handle
-use Rattle.handles.proofs.Values.{both, handle_in, handle_opens, token}
+use Rattle.handles.proofs.Values.{two_words, handle_in, handle_opens, token}
 use Rattle.handles.specs.contracts.handle.ReelHandle.kept.{ended, clauses}
 use Rattle.handles.specs.contracts.handle.ReelHandle.kept.Key.{name as #self}
 use Rattle.handles.proofs.handle.ReelHandle.kept.Statement.{statement}
@@ -67,14 +67,14 @@ module _ {M : Type 1} {𝓤 : Ura M} (𝓛 : Logic 𝓤) (at_mem : Memory → SP
   module _ (b o : ℕ) (v : Val) where
     -- all of the handle but the reel
     abbrev Rest : Fml
-    Rest = fsep (fsep (token h.alloc b o) (Z.own_val h.alloc (v ∷ []))) (cell_at full_share B.mir (both (vptr b o) v ∷ []) rb ro)
+    Rest = fsep (fsep (token h.alloc b o) (Z.own_val h.alloc (v ∷ []))) (cell_at full_share B.mir (two_words (vptr b o) v ∷ []) rb ro)
 
     back : h.at ≡ block_ptr b o → (w : KeptReel) → ent 𝓤 (sep 𝓤 (sem 𝓛 ((mem R).own_at w b o)) (sem 𝓛 Rest)) (sem 𝓛 ((mem B).own_at (with_kept h w) rb ro))
     unfolding part_of
     back at_b w =
         qed 𝓛 (‵ (part_at R full_share w b o) ∷ ‵ Rest ∷ []) ∵ move ! (1 ∷ []) $ fsplit ! $ fsplit ! $ move ! (3 ∷ 0 ∷ []) $ fjoin ! $
-        handle_in ! b o v h.alloc w $ rewrite ! 0 (λ (p : Ptr). ‵ (B.own_val (record { at = p; alloc = h.alloc; kept = w }) (both (vptr b o) v ∷ []))) (sym at_b) refl $
-        move ! (1 ∷ 0 ∷ []) $ fjoin ! $ fpack ! (List Val) (λ us. fsep (cell_at full_share B.mir us rb ro) (B.own_val (with_kept h w) us)) (both (vptr b o) v ∷ []) $ done !
+        handle_in ! b o v h.alloc w $ rewrite ! 0 (λ (p : Ptr). ‵ (B.own_val (record { at = p; alloc = h.alloc; kept = w }) (two_words (vptr b o) v ∷ []))) (sym at_b) refl $
+        move ! (1 ∷ 0 ∷ []) $ fjoin ! $ fpack ! (List Val) (λ us. fsep (cell_at full_share B.mir us rb ro) (B.own_val (with_kept h w) us)) (two_words (vptr b o) v ∷ []) $ done !
 
     exits : (γ' : GName)
         → ent 𝓤 (sep 𝓤 (sem 𝓛 ((MutRef (named 0) κ R).own_val (record { ref_ptr = (b, o); ghost_name = γ'; now = h.kept }) (vptr b o ∷ []))) (sep 𝓤 (A.lft κ q) (sem 𝓛 (follows B R γ γ' (with_kept h))))) (Post (vptr b o))

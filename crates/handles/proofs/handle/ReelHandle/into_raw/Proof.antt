@@ -1,4 +1,4 @@
--- `into_loose` hands it back.
+-- `into_raw` hands it back.
 use Rattle.std.proofs.Common.{◌≡◌, List, [], ◌∷◌, ◌++◌, refl, sym, subst}
 use mir.Syntax.{Fn}
 use mir.Val.{Val, vptr}
@@ -25,14 +25,14 @@ use Rattle.std.proofs.alloc.Global.TheLaws as heap_laws
 use Rattle.std.specs.contracts.impls.GlobalAllocator.TheImpl.{ghosts}
 use Rattle.handles.specs.contracts.kept.KeptReel as kept
 use Rattle.handles.specs.contracts.handle.ReelHandle as handle
-use Rattle.handles.proofs.Values.{both, loose_good, handle_out, loose_in}
-use Rattle.handles.specs.contracts.handle.ReelHandle.into_loose.{ended, clauses}
-use Rattle.handles.specs.contracts.handle.ReelHandle.into_loose.Key.{name as #self}
-use Rattle.handles.proofs.handle.ReelHandle.into_loose.Statement.{statement}
-use Rattle.handles.proofs.handle.ReelHandle.into_loose.Code as code
+use Rattle.handles.proofs.Values.{two_words, raw_box_good, handle_out, raw_box_in}
+use Rattle.handles.specs.contracts.handle.ReelHandle.into_raw.{ended, clauses}
+use Rattle.handles.specs.contracts.handle.ReelHandle.into_raw.Key.{name as #self}
+use Rattle.handles.proofs.handle.ReelHandle.into_raw.Statement.{statement}
+use Rattle.handles.proofs.handle.ReelHandle.into_raw.Code as code
 
-pub into_loose_spec : {M : Type 1} → statement M
-into_loose_spec 𝓤 𝓛 𝓜 𝓡 wired =
+pub into_raw_spec : {M : Type 1} → statement M
+into_raw_spec 𝓤 𝓛 𝓜 𝓡 wired =
     let H = 𝓛.H in let 𝓣 = tables 𝓤 H 𝓜 𝓡 𝓡.env in let R : RattleType = kept.the_row in let Z : RattleType = heap.the_row in let LZ = heap_laws.the_row_laws in
     let En = ended in let c = clauses 𝓛 𝓜.mem 𝓡.returns in let fn : Fn = code.function in let P : RattleType = handle.the_row in
     let hs : Stays En.signature.params En.kept = (stay_dropped (plain (λ _. P)) yes, tt) in
@@ -40,11 +40,11 @@ into_loose_spec 𝓤 𝓛 𝓜 𝓡 wired =
     let v = z.0.3.0 in let Post : Val → SProp 𝓤 = (walk_of 𝓛 En hs c).post z in let Run : List Val → SProp 𝓤 = λ ws. WpFn 𝓤 H 𝓣.C 𝓣.Λ fn ws Post in
     qed 𝓛 ((raw (alive 𝓛 En.signature z.0.0 z.0.1) ⊛ ‵ (owns (types_at En.signature.params z.0.0) z.0.3 z.0.4)) ∷ ‵ ftrue ∷ []) ∵ move ! (1 ∷ []) $ drop ! $ split ! $ move ! (1 ∷ []) $ fsplit ! $
     handle_out ! v z.0.4.0 (λ b o h e ws fits.
-    let w : Val = both (vptr b o) h in let typed = loose_good R Z LZ ghosts b o h fits in
+    let w : Val = two_words (vptr b o) h in let typed = raw_box_good R Z LZ ghosts b o h fits in
     suffices ! (Run (w ∷ [])) (subst (λ (us : List Val). ent 𝓤 (Run (w ∷ [])) (Run us)) (sym (λ i. ws i ++ [])) (id⊢ 𝓤 (Run (w ∷ [])))) $
     enter ! 𝓣.C 𝓣.Λ fn (w ∷ []) Post $ alloc_all ! (λ l. pass_all ! refl (typed, tt) $
     sets ! (of_opd ! (get_in ! (fld ! refl (stop !)) (sub ! 0 refl (whole !)))) refl (tt, tt) $ sets ! (of_opd ! (get_in ! (fld ! refl (stop !)) (sub ! 1 refl (whole !)))) refl fits $
     sets ! (of_opd ! (get ! refl)) refl (tt, tt) $ sets ! (agg ! (and_then ! (get ! refl) (and_then ! (get ! refl) (no_more !)))) refl typed $
-    loose_in R Z LZ ghosts ! b o h v.alloc v.kept $
+    raw_box_in R Z LZ ghosts ! b o h v.alloc v.kept $
     use0 𝓛 (raw (fact 𝓤 (v.kept ≡ v.kept))) (fact_i 𝓤 (v.kept ≡ v.kept) (emp 𝓤) refl) $ nothing ! $ nothing ! $ fjoin ! $
     returns ! (look_at ! 0 refl) $ free_all ! refl $ keep ! (4 ∷ 0 ∷ 2 ∷ 1 ∷ []) $ by ! (leaves 𝓛 En hs c z w (record { at = block_ptr b o; alloc = v.alloc; value = v.kept }) (tt, tt) (tt, tt)))))
