@@ -92,9 +92,6 @@ mapped f g h None e = refl
 mapped f g h (Some p) e = ap Some (e p)
 
 module _ (all : Played → Played) (seat₀ : Option Seat) (choices₀ : Choices) (old : Transcript) where
-  pub left_start : Left all seat₀ choices₀ old all seat₀ choices₀ old
-  left_start = record { left = λ some. refl }
-
   pub left_more : (rest f rest' : Played → Played) (seat : Option Seat) (choices : Choices) (now : Transcript) (seat' : Option Seat) (choices' : Choices) (new : Transcript)
       → Left all seat₀ choices₀ old rest seat choices now → Plays f seat choices now seat' choices' new → ((p : Played) → rest' (f p) ≡ rest p)
       → Left all seat₀ choices₀ old rest' seat' choices' new

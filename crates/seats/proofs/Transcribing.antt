@@ -29,7 +29,7 @@ closed_transcribed c a marks h sums word x y z ew ea es p q = transcribes_as _ _
 -- a picture that is left open is closed where the memory fits
 closing_transcribed : (fit : Bool) (marks : ℕ) (there here : Contents) (t : Transcribed) → fit ≡ true
     → with_line (sums_text (sums_of there.held)) (with_line (answer_text word.Close (Closed marks)) t)
-    ≡ with_sums (runs.told (judge_closing fit) (Closed marks)) (runs.moved (judge_closing fit) there here).held (with_line (answer_text word.Close (runs.told (judge_closing fit) (Closed marks))) t)
+    ≡ with_sums (runs.answer_or_refusal (judge_closing fit) (Closed marks)) (runs.if_accepted (judge_closing fit) there here).held (with_line (answer_text word.Close (runs.answer_or_refusal (judge_closing fit) (Closed marks))) t)
 closing_transcribed fit marks there here t e = rw e
 
 pub left_transcribed : (meaning : List ℤ → ℕ → ℕ → ℤ) (slip : Slip) (h after : Held) (marks : ℕ) (sums : PictureSums) (x y z : Transcript)

@@ -1,5 +1,5 @@
 -- A reel with the memory that the script chose for it.
-use Rattle.std.specs.Prelude.{◌≡◌, ℕ, Bool, false, List, None, pos, replicate, vec_items}
+use Rattle.std.specs.Prelude.{◌≡◌, Bool, false, None, pos, replicate, vec_items}
 use Rattle.transform.specs.Kinds.{meaning_of}
 use Rattle.pictures.specs.declared.formats.Format.{Format}
 use Rattle.motion.specs.declared.vectors.Vector.{Vector}
