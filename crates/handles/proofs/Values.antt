@@ -18,7 +18,6 @@ use denote.Param.{layout}
 use denote.Param.Laws.{Laws}
 use denote.Struct.Struct.{within}
 use denote.Struct.Owning.{shape}
-use denote.Struct.Values.{intos}
 use Rattle.core.specs.declared.alloc.Allocator.{Ghosts}
 use Rattle.core.proofs.alloc.Calls.{Al, handle_tells}
 use Rattle.core.proofs.cell.Inside.{Good}
@@ -44,7 +43,7 @@ module _ (R Z : RattleType) (L : Laws Z) (g : Ghosts Z.Denot) where
   abbrev pub RawBox : RattleType
   RawBox = raw_box.the_row R Z g
 
-  abbrev al : Al
+  abbrev pub al : Al
   al = record { row = Z; laws = L; g = g; d = impl [] tnil dnil; drops = impl [] tnil dnil }
 
   pub raw_box_good : (b o : ℕ) (h : Val) → Good (layout Z) h → T (has_ty (layout Z) h && true) × WT (two_words (vptr b o) h)
@@ -73,24 +72,9 @@ Z = heap.the_row
 abbrev R : RattleType
 R = kept.the_row
 
-abbrev pub heap_al : Al
-heap_al = record { row = Z; laws = heap_laws.the_row_laws; g = ghosts; d = impl [] tnil dnil; drops = impl [] tnil dnil }
-
-module _ {M : Type 1} {𝓤 : Ura M} {𝓛 : Logic 𝓤} {K : Type 0} {Γ : List (Item 𝓤)} {G : Goal 𝓤 𝓛.H} where
-  pub handle_out : K → (d : handle.the_row.Denot) (vs : List Val)
-      → ((b o : ℕ) (h : Val) → d.at ≡ block_ptr b o → vs ≡ two_words (vptr b o) h ∷ [] → Good (layout Z) h → Seq K 𝓛 (‵ (box_owns (ghosts.dealloc_token d.alloc) R (block_ptr b o) d.kept) ∷ ‵ (Z.own_val d.alloc (h ∷ [])) ∷ Γ) G)
-      → Seq K 𝓛 (‵ (handle.the_row.own_val d vs) ∷ Γ) G
-  handle_out t d vs k =
-      fsplit t $ fpick t (λ vss. fsplit t $ feq_l t (λ ev. fsplit t $ feq_l t (λ ep. fsplit t $ handle_tells heap_al t d.alloc vss.1.0 (λ h ea fits. move t (1 ∷ []) $ drop t $ move t (1 ∷ []) $
-      in_a_block t d.at (λ p. box_owns (ghosts.dealloc_token d.alloc) R p d.kept) (fst∗ 𝓤 (never 𝓤) (sem 𝓛 (ghosts.dealloc_token d.alloc (bare (lone R.mir)) null_ptr))) (λ b o e. k b o h e
-      (subst (λ (p : Ptr). vs ≡ vstruct (of_list (ptr_val p ∷ h ∷ [])) ∷ []) e
-      (subst (λ (ws : List Val). vs ≡ vstruct (of_list (ptr_val d.at ∷ (ws ++ []))) ∷ []) ea (subst (λ (ps : List Val). vs ≡ vstruct (of_list (ps ++ (vss.1.0 ++ []))) ∷ []) ep ev))) fits)))))
-
-  pub handle_in : K → (b o : ℕ) (h : Val) (a : Global) (x : R.Denot)
-      → Step K 𝓛 (‵ (handle.the_row.own_val (record { at = block_ptr b o; alloc = a; kept = x }) (two_words (vptr b o) h ∷ [])) ∷ Γ) G (‵ (box_owns (ghosts.dealloc_token a) R (block_ptr b o) x) ∷ ‵ (Z.own_val a (h ∷ [])) ∷ Γ) G
-  handle_in t b o h a x = step (λ s. let v : Val = two_words (vptr b o) h in
-      nothing t $ move t (2 ∷ 0 ∷ []) $ fjoin t $ feq_i t (List Val) (vptr b o ∷ []) (vptr b o ∷ []) refl $ fjoin t $ feq_i t (List Val) (v ∷ []) (v ∷ []) refl $ fjoin t $
-      fpack t (Valss (RawPtr ∷ Z ∷ [])) (within (shape handle.the_type) (intos (handle.struct).parts ((handle.struct).as_values (record { at = block_ptr b o; alloc = a; kept = x }))) (v ∷ [])) (vptr b o ∷ [], (h ∷ [], tt)) $ fjoin t $ s)
+-- a handle as what it is but for its name
+abbrev pub as_raw_box : handle.the_row.Denot → (RawBox R Z heap_laws.the_row_laws ghosts).Denot
+as_raw_box d = record { at = d.at; alloc = d.alloc; value = d.kept }
 
 abbrev pub one_word : Val → Val
 one_word v = vstruct (vcons v vnil)
@@ -112,5 +96,5 @@ module _ {M : Type 1} {𝓤 : Ura M} {𝓛 : Logic 𝓤} {K : Type 0} {Γ : List
       ∷ ‵ (fobor κ q (Borrowed (mem handle.the_row) rb ro γ)) ∷ ‵ (fobs γ (handle.the_row.coded.code d)) ∷ ‵ (fauth γ (handle.the_row.coded.code d)) ∷ Γ) G)
       → Seq K 𝓛 (‵ (fobs γ (handle.the_row.coded.code d)) ∷ ‵ (fbor κ (Borrowed (mem handle.the_row) rb ro γ)) ∷ ‵ (flft κ q) ∷ Γ) G
   handle_opens t z d rb ro k =
-      opens t z handle.the_row {h = d} rb ro (λ vs. move t (1 ∷ []) $ handle_out t d vs (λ b o v e ws fits. fsplit t $ move t (1 ∷ 2 ∷ []) $ fjoin t $ move t (1 ∷ []) $
+      opens t z handle.the_row {h = d} rb ro (λ vs. move t (1 ∷ []) $ raw_box_out R Z heap_laws.the_row_laws ghosts t (as_raw_box d) vs (λ b o v e ws fits. fsplit t $ move t (1 ∷ 2 ∷ []) $ fjoin t $ move t (1 ∷ []) $
       rewrite t 2 (λ (us : List Val). ‵ (cell_at full_share handle.the_row.mir us rb ro)) ws refl $ k b o v e))

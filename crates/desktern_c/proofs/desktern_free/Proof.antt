@@ -38,7 +38,7 @@ use Rattle.std.proofs.alloc.Global.TheLaws as heap_laws
 use Rattle.std.specs.contracts.impls.GlobalAllocator.TheImpl.{ghosts}
 use Rattle.handles.specs.Handles.{handle_owned, slot_owns}
 use Rattle.handles.specs.contracts.handle.ReelHandle as handle
-use Rattle.handles.proofs.Values.{heap_al, two_words, raw_box_good, raw_box_in}
+use Rattle.handles.proofs.Values.{al, two_words, raw_box_good, raw_box_in}
 use Rattle.handles.specs.contracts.calling.release as callee
 use Rattle.handles.proofs.calling.release.Met.{met}
 use Rattle.desktern_c.specs.contracts.desktern_free.{ended, clauses, requires-null}
@@ -74,7 +74,7 @@ desktern_free_spec 𝓤 𝓛 𝓜 𝓡 wired =
     nothing ! $ feq_i ! (List Val) (vunit ∷ []) (vunit ∷ []) refl $ nothing ! $ nothing ! $ fjoin ! $ nothing ! $ fjoin ! $ move ! (3 ∷ []) $
     by ! (leaves 𝓛 En hs c z vunit tt (tt, (tt, tt)) (tt, (tt, tt))) in
     qed 𝓛 ((toks ⊛ ‵ (owns (types_at En.signature.params z.0.0) z.0.3 z.0.4)) ∷ (raw (requires-null 𝓛 z.0.0 𝓜.mem 𝓡.returns a p behind) ⊛ ‵ (slot_owns p behind)) ∷ []) ∵ split ! $ move ! (1 ∷ []) $ fsplit ! $
-    handle_tells heap_al ! a us (λ h eh fits. move ! (1 ∷ []) $ fsplit ! $ feq_l ! (λ ev. drop ! $ move ! (2 ∷ []) $ split ! $ heard ! _ (λ null.
+    handle_tells (al R Z LZ ghosts) ! a us (λ h eh fits. move ! (1 ∷ []) $ fsplit ! $ feq_l ! (λ ev. drop ! $ move ! (2 ∷ []) $ split ! $ heard ! _ (λ null.
     let runs : (w : Val) → vs ≡ w ∷ [] → ent 𝓤 (Run (h ∷ w ∷ [])) (Run (us ++ (vs ++ []))) = λ w is. subst (λ (ts : List Val). ent 𝓤 (Run (h ∷ w ∷ [])) (Run ts)) (sym (λ i. eh i ++ (is i ++ []))) (id⊢ 𝓤 (Run (h ∷ w ∷ []))) in
     given_back ! p behind null
     -- there is no handle

@@ -29,12 +29,14 @@ use denote.Triple.Walked.{says, Stays, stay_dropped, walk_of, ends_at, Goes-spen
 use Rattle.core.proofs.alloc.Shapes.{after}
 use Rattle.std.proofs.raw_atomic.Walks.{proved}
 use Rattle.std.specs.contracts.alloc.Global as heap
+use Rattle.std.proofs.alloc.Global.TheLaws as heap_laws
+use Rattle.std.specs.contracts.impls.GlobalAllocator.TheImpl.{ghosts}
 use Rattle.handles.specs.declared.handle.ReelHandle.{ReelHandle}
 use Rattle.handles.specs.declared.kept.KeptReel.{KeptReel}
 use Rattle.handles.specs.Handles.{with_kept}
 use Rattle.handles.specs.contracts.kept.KeptReel as kept
 use Rattle.handles.specs.contracts.handle.ReelHandle as handle
-use Rattle.handles.proofs.Values.{two_words, handle_in, handle_opens, token}
+use Rattle.handles.proofs.Values.{two_words, raw_box_in, handle_opens, token}
 use Rattle.handles.specs.contracts.handle.ReelHandle.kept.{ended, clauses}
 use Rattle.handles.specs.contracts.handle.ReelHandle.kept.Key.{name as #self}
 use Rattle.handles.proofs.handle.ReelHandle.kept.Statement.{statement}
@@ -73,7 +75,7 @@ module _ {M : Type 1} {𝓤 : Ura M} (𝓛 : Logic 𝓤) (at_mem : Memory → SP
     unfolding part_of
     back at_b w =
         qed 𝓛 (‵ (part_at R full_share w b o) ∷ ‵ Rest ∷ []) ∵ move ! (1 ∷ []) $ fsplit ! $ fsplit ! $ move ! (3 ∷ 0 ∷ []) $ fjoin ! $
-        handle_in ! b o v h.alloc w $ rewrite ! 0 (λ (p : Ptr). ‵ (B.own_val (record { at = p; alloc = h.alloc; kept = w }) (two_words (vptr b o) v ∷ []))) (sym at_b) refl $
+        raw_box_in R Z heap_laws.the_row_laws ghosts ! b o v h.alloc w $ rewrite ! 0 (λ (p : Ptr). ‵ (B.own_val (record { at = p; alloc = h.alloc; kept = w }) (two_words (vptr b o) v ∷ []))) (sym at_b) refl $
         move ! (1 ∷ 0 ∷ []) $ fjoin ! $ fpack ! (List Val) (λ us. fsep (cell_at full_share B.mir us rb ro) (B.own_val (with_kept h w) us)) (two_words (vptr b o) v ∷ []) $ done !
 
     exits : (γ' : GName)

@@ -1,49 +1,32 @@
 -- `of` hands what the box owned to the slot.
-use Rattle.std.proofs.Common.{◌≡◌, List, [], ◌∷◌, ◌++◌, refl, sym, subst}
+use Rattle.std.proofs.Common.{[], ◌∷◌, refl, ◌≡◌}
 use mir.Syntax.{Fn}
 use mir.Val.{Val, vptr}
-use base.Logic.{SProp, ent, emp, id⊢}
-use base.Fml.{ftrue}
-use prog.Wp.{WpFn}
-use types.Kit.{‵, raw, ◌⊛◌, ◌$◌, ◌∵◌, !, qed, by, move, keep, drop, split, fsplit, fjoin, suffices, use0}
+use types.Kit.{‵, ◌$◌, ◌∵◌, !, qed, by, keep, fsplit}
 use types.Run.{stop, fld, of_opd, no_more, and_then, returns, enter}
 use types.ByLocal.{alloc_all, pass_all, free_all, look_at, get, get_in, sets}
 use types.Part.{agg, sub, whole}
-use contract.Monad.{fact, fact_i}
 use contract.Running.{tables}
-use denote.Exit.{yes}
-use denote.RattleType.{RattleType, owns}
+use denote.RattleType.{RattleType}
 use denote.RawPtr.{block_ptr}
-use denote.Signature.{types_at, plain}
-use denote.Steps.{nothing}
-use denote.Triple.Entry.{alive}
-use denote.Triple.Walked.{Stays, stay_dropped, walk_of}
-use Rattle.core.proofs.alloc.Calls.{Goes-blank}
-use Rattle.std.proofs.raw_atomic.Walks.{proved_at, leaves}
 use Rattle.std.specs.contracts.alloc.Global as heap
 use Rattle.std.proofs.alloc.Global.TheLaws as heap_laws
 use Rattle.std.specs.contracts.impls.GlobalAllocator.TheImpl.{ghosts}
 use Rattle.core.specs.declared.option.Option.TheVariants.{Some}
 use Rattle.handles.specs.contracts.handle.ReelHandle as handle
-use Rattle.handles.proofs.Values.{two_words, RawBox, one_word, raw_box_good, raw_box_out, slot_in}
-use Rattle.handles.specs.contracts.slot.ReelSlot.of.{ended, clauses}
+use Rattle.handles.specs.contracts.slot.ReelSlot as slot
+use Rattle.handles.proofs.Values.{two_words, one_word, raw_box_good, slot_in}
+use Rattle.handles.proofs.HandedOn.{as_raw, handed_on, parts}
 use Rattle.handles.specs.contracts.slot.ReelSlot.of.Key.{name as #self}
 use Rattle.handles.proofs.slot.ReelSlot.of.Statement.{statement}
 use Rattle.handles.proofs.slot.ReelSlot.of.Code as code
 
 pub of_spec : {M : Type 1} → statement M
 of_spec 𝓤 𝓛 𝓜 𝓡 wired =
-    let H = 𝓛.H in let 𝓣 = tables 𝓤 H 𝓜 𝓡 𝓡.env in let R : RattleType = handle.the_row in let Z : RattleType = heap.the_row in let LZ = heap_laws.the_row_laws in
-    let En = ended in let c = clauses 𝓛 𝓜.mem 𝓡.returns in let fn : Fn = code.function in let P : RattleType = RawBox R Z LZ ghosts in
-    let hs : Stays En.signature.params En.kept = (stay_dropped (plain (λ _. P)) yes, tt) in
-    proved_at 𝓛 En hs c 𝓜 𝓡 (Goes-blank 𝓛 0 (plain (λ _. P)) yes (λ κs x f. tt), tt) #self fn (code.unfolded 𝓤 H 𝓜 𝓡 wired) (λ z are.
-    let v = z.0.3.0 in let Post : Val → SProp 𝓤 = (walk_of 𝓛 En hs c).post z in let Run : List Val → SProp 𝓤 = λ ws. WpFn 𝓤 H 𝓣.C 𝓣.Λ fn ws Post in
-    qed 𝓛 ((raw (alive 𝓛 En.signature z.0.0 z.0.1) ⊛ ‵ (owns (types_at En.signature.params z.0.0) z.0.3 z.0.4)) ∷ ‵ ftrue ∷ []) ∵ move ! (1 ∷ []) $ drop ! $ split ! $ move ! (1 ∷ []) $ fsplit ! $
-    raw_box_out R Z LZ ghosts ! v z.0.4.0 (λ b o h e ws fits.
-    let w : Val = two_words (vptr b o) h in let typed = raw_box_good R Z LZ ghosts b o h fits in
-    suffices ! (Run (w ∷ [])) (subst (λ (us : List Val). ent 𝓤 (Run (w ∷ [])) (Run us)) (sym (λ i. ws i ++ [])) (id⊢ 𝓤 (Run (w ∷ [])))) $
-    enter ! 𝓣.C 𝓣.Λ fn (w ∷ []) Post $ alloc_all ! (λ l. pass_all ! refl (typed, tt) $
+    let 𝓣 = tables 𝓤 𝓛.H 𝓜 𝓡 𝓡.env in let R : RattleType = handle.the_row in let fn : Fn = code.function in
+    handed_on 𝓤 𝓛 𝓜 𝓡 R (as_raw R) slot.the_row (λ d q. q.handle ≡ Some d.value) #self fn (code.unfolded 𝓤 𝓛.H 𝓜 𝓡 wired) (λ d b o h fits Post lands.
+    let w : Val = two_words (vptr b o) h in let typed = raw_box_good R heap.the_row heap_laws.the_row_laws ghosts b o h fits in
+    qed 𝓛 (‵ (parts (as_raw R) d b o h) ∷ []) ∵ enter ! 𝓣.C 𝓣.Λ fn (w ∷ []) Post $ alloc_all ! (λ l. pass_all ! refl (typed, tt) $
     sets ! (of_opd ! (get_in ! (fld ! refl (stop !)) (sub ! 0 refl (whole !)))) refl (tt, tt) $ sets ! (agg ! (and_then ! (get ! refl) (no_more !))) refl (tt, (tt, tt)) $
-    slot_in ! b o v.value $
-    use0 𝓛 (raw (fact 𝓤 (Some v.value ≡ Some v.value))) (fact_i 𝓤 (Some v.value ≡ Some v.value) (emp 𝓤) refl) $ nothing ! $ nothing ! $ fjoin ! $
-    returns ! (look_at ! 0 refl) $ free_all ! refl $ keep ! (5 ∷ 0 ∷ 2 ∷ 1 ∷ []) $ by ! (leaves 𝓛 En hs c z (one_word (vptr b o)) (record { at = block_ptr b o; handle = Some v.value }) (tt, tt) (tt, tt)))))
+    fsplit ! $ slot_in ! b o d.value $ returns ! (look_at ! 0 refl) $ free_all ! refl $ keep ! (0 ∷ []) $
+    by ! (lands (record { at = block_ptr b o; handle = Some d.value }) (one_word (vptr b o)) refl)))
