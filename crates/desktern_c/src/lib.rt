@@ -21,8 +21,8 @@ use handles::raw_box::RawBox;
 use handles::slot::ReelSlot;
 use std::alloc::Global;
 
-// Begins a reel, and puts its pointer where `reel` points. Where that is not accepted it leaves the place as it was. (That no handle lies behind it before
-// is asked so that none is lost: so it is of a place that C did not fill.)
+// Begins a reel, and puts its pointer where `reel` points. Where that is not accepted it leaves the place as it was. (No handle may lie behind it before,
+// or that one would be lost; behind a place that C did not fill none does.)
 #[unsafe(no_mangle)]
 pub extern "C" fn desktern_new(
     heap: Global,
@@ -41,8 +41,8 @@ pub extern "C" fn desktern_new(
             *reel = ReelSlot::of(raw);
             *answer = AnswerNumbers::outcome_accepted(0, 0);
         }
-        Err(told) => {
-            *answer = told;
+        Err(numbers) => {
+            *answer = numbers;
         }
     }
 }

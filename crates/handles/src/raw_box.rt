@@ -1,4 +1,4 @@
-// A box as its pointer. The walks of its two functions are by hand, as for any code that reaches a pointer that owns memory.
+// A box as its pointer. The proofs of `of` and `into_box` are by hand, as for any code that reaches a pointer that owns memory.
 ghost use Rattle.std.specs.Prelude.{◌≡◌, IfSome};
 ghost use Rattle.std.specs.Box.Ownership.{box_owns};
 

@@ -9,7 +9,7 @@ fn outcome(heap: Global, format: u32, store: u32, transform: u32) -> u32 {
             release(reel);
             0
         }
-        Err(told) => told.outcome,
+        Err(numbers) => numbers.outcome,
     }
 }
 
