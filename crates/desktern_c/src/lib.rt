@@ -1,5 +1,5 @@
-// Desktern for C: each export makes one call on a reel and tells its answer in numbers. Relies on `seats` for the calls. Only a new reel allocates, and only
-// giving it back frees.
+// Desktern for C: each export makes one call on a reel and tells its answer in numbers. Relies on `reels_in_memory` for the calls. Only a new reel allocates,
+// and only giving it back frees.
 #![tactic(auto)]
 
 ghost use Rattle.std.specs.Prelude.{◌≡◌, None, Option, length};
@@ -8,7 +8,7 @@ ghost use denote.RawPtr.{null_ptr};
 ghost use Rattle.calls.specs.declared.answers.Call.TheVariants.{Age as asking_age, Sample as asking_sample, Close as closing, Deliver as delivering, Open as opening};
 ghost use Rattle.pictures.specs.Formats.{format_of_number};
 ghost use Rattle.handles.specs.Handles.{Answered, ages_behind, finished_behind, slot_owns};
-ghost use Rattle.seats.specs.Copies.{laid_over, plane_samples, plane_size};
+ghost use Rattle.reels_in_memory.specs.Copies.{laid_over, plane_samples, plane_size};
 ghost use Rattle.handles.specs.Begun.{Begun, choices_numbered};
 ghost use Rattle.handles.specs.declared.handle.ReelHandle.{ReelHandle as Handle};
 

@@ -9,8 +9,8 @@ use Rattle.call_lines.specs.declared.line.StoreKind.{StoreKind}
 use Rattle.call_lines.specs.declared.line.StoreKind.TheVariants as store
 use Rattle.transform.specs.declared.kinds.TransformKind.{TransformKind}
 use Rattle.transform.specs.declared.kinds.TransformKind.TheVariants as transform
-use Rattle.seats.specs.declared.seat.Choices.{Choices}
-use Rattle.seats.specs.Seats.{blank, held_by, store_in}
+use Rattle.reels_in_memory.specs.declared.reel_in_memory.Choices.{Choices}
+use Rattle.reels_in_memory.specs.Memories.{blank, held_by, store_in}
 use Rattle.handles.specs.declared.answer.AnswerNumbers.{AnswerNumbers}
 use Rattle.handles.specs.declared.handle.ReelHandle.{ReelHandle}
 use Rattle.handles.specs.declared.raw_box.RawBox.{RawBox}
@@ -35,14 +35,14 @@ choices_numbered kind number = chosen (store_numbered kind) (transform_numbered 
 
 -- behind a handle is a new reel of a format, with the store and the transform that were chosen and a memory of zeros and absent marks
 pub record Fresh (f : Format) (choices : Choices) (h : ReelHandle) : Type 0 where
-  pub state : state_behind h ≡ new (held_by h.kept.seat.memory)
-  pub format : format_of h.kept.seat.stage ≡ f
-  pub store : store_in h.kept.seat.memory ≡ choices.store
-  pub transform : h.kept.seat.transform ≡ choices.transform
-  pub blank : held_by h.kept.seat.memory ≡ blank (format_of h.kept.seat.stage)
+  pub state : state_behind h ≡ new (held_by h.kept.reel.memory)
+  pub format : format_of h.kept.reel.stage ≡ f
+  pub store : store_in h.kept.reel.memory ≡ choices.store
+  pub transform : h.kept.reel.transform ≡ choices.transform
+  pub blank : held_by h.kept.reel.memory ≡ blank (format_of h.kept.reel.stage)
 
--- What handle there is then, and what is answered. A number that names no format is refused, whatever is chosen; of a format, a choice that is not known has an outcome
--- of its own; and where memory fails there is no handle.
+-- What handle there is then, and what is answered. A number that names no format is refused, whatever is chosen; of a format, a choice that is not known has an
+-- outcome of its own; and where memory fails there is no handle.
 abbrev pub Begun : Option Format → Option Choices → Option ReelHandle → AnswerNumbers → Type 0
 Begun None choices None a = a ≡ numbers_of (Refused fault.Format)
 Begun (Some format) None None a = a ≡ outcome_unknown_choice

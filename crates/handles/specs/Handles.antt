@@ -9,7 +9,7 @@ use Rattle.pictures.specs.Pictures.{Picture}
 use Rattle.calls.specs.Laws.{granted}
 use Rattle.calls.specs.Runs.{Calling, reply, Setting, State, step}
 use Rattle.replay.specs.Stages.{writes}
-use Rattle.seats.specs.Steps.{setting_in, state_in}
+use Rattle.reels_in_memory.specs.Steps.{setting_in, state_in}
 use Rattle.handles.specs.declared.answer.AnswerNumbers.{AnswerNumbers}
 use Rattle.handles.specs.declared.handle.ReelHandle.{ReelHandle}
 use Rattle.handles.specs.contracts.handle.ReelHandle.{the_row as handle_row}
@@ -36,11 +36,11 @@ LendsKept h r = Lends handle_row kept_row h r (with_kept h.now)
 
 -- the reel behind a handle, and what its memory holds
 abbrev pub state_behind : ReelHandle → State
-state_behind h = state_in h.kept.seat
+state_behind h = state_in h.kept.reel
 
 -- its format, the meaning of its transform, and that its memory has its size
 abbrev pub setting_behind : ReelHandle → Setting
-setting_behind h = setting_in h.kept.seat
+setting_behind h = setting_in h.kept.reel
 
 -- the finished picture of its memory, and the ages of that
 abbrev pub finished_behind : ReelHandle → Picture
@@ -55,5 +55,5 @@ pub record Answered (h : ReelHandle) (call : Calling) (h' : ReelHandle) (numbers
   pub state : state_behind h' ≡ step (setting_behind h) (state_behind h) call
   pub answer : numbers ≡ numbers_of (reply (setting_behind h) (state_behind h) call)
   pub setting : setting_behind h' ≡ setting_behind h
-  pub stays : granted (reply (setting_behind h) (state_behind h) call) ≡ false → h'.kept.seat.stage ≡ h.kept.seat.stage
-  pub untouched : writes (reply (setting_behind h) (state_behind h) call) ≡ false → h'.kept.seat.memory ≡ h.kept.seat.memory
+  pub stays : granted (reply (setting_behind h) (state_behind h) call) ≡ false → h'.kept.reel.stage ≡ h.kept.reel.stage
+  pub untouched : writes (reply (setting_behind h) (state_behind h) call) ≡ false → h'.kept.reel.memory ≡ h.kept.reel.memory

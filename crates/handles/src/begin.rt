@@ -10,7 +10,7 @@ use crate::raw_box::RawBox;
 use call_lines::line::StoreKind;
 use calls::answers::Answer;
 use reel::reels::Reel;
-use seats::seat::{Choices, Seat};
+use reels_in_memory::reel_in_memory::{Choices, ReelInMemory};
 use std::alloc::Global;
 use transform::TransformKind;
 
@@ -46,11 +46,11 @@ fn choices_numbered(store: u32, transform: u32) -> Option<Choices>
     Some(Choices { store, transform })
 }
 
-// Lays a seat behind the two pointers of a handle, if there is memory for that.
-fn lay(heap: Global, seat: Seat) -> Option<RawBox<ReelHandle, Global>>
-    ensures { IfSome result (λ raw. raw.value.kept.seat ≡ seat) }
+// Lays a reel with its memory behind the two pointers of a handle, if there is memory for that.
+fn lay(heap: Global, reel: ReelInMemory) -> Option<RawBox<ReelHandle, Global>>
+    ensures { IfSome result (λ raw. raw.value.kept.reel ≡ reel) }
 {
-    let kept = RawBox::new(heap, KeptReel::new(seat))?;
+    let kept = RawBox::new(heap, KeptReel::new(reel))?;
     RawBox::new(heap, ReelHandle::of(kept))
 }
 
@@ -63,15 +63,15 @@ pub fn begin(
 ) -> Result<RawBox<ReelHandle, Global>, AnswerNumbers>
     ensures { Begun (format_of_number format) (choices_numbered store transform) (handle_in result) (answer_in result) }
 {
-    let reel = match Reel::new(format) {
-        Ok(reel) => reel,
+    let resting = match Reel::new(format) {
+        Ok(resting) => resting,
         Err(fault) => return Err(AnswerNumbers::from(Answer::Refused(fault))),
     };
     let Some(choices) = choices_numbered(store, transform) else {
         return Err(AnswerNumbers::outcome_unknown_choice());
     };
-    let Ok(seat) = Seat::new(heap, reel, choices) else {
+    let Ok(reel) = ReelInMemory::new(heap, resting, choices) else {
         return Err(AnswerNumbers::outcome_no_memory());
     };
-    lay(heap, seat).ok_or(AnswerNumbers::outcome_no_memory())
+    lay(heap, reel).ok_or(AnswerNumbers::outcome_no_memory())
 }

@@ -2,7 +2,7 @@
 ghost use Rattle.std.specs.Prelude.{◌≡◌, length};
 ghost use Rattle.std.specs.Borrow.{sem};
 ghost use Rattle.calls.specs.Runs.{call_of};
-ghost use Rattle.seats.specs.Copies.{laid_over, plane_samples, plane_size};
+ghost use Rattle.reels_in_memory.specs.Copies.{laid_over, plane_samples, plane_size};
 ghost use Rattle.handles.specs.Handles.{Answered, LendsKept, ages_behind, finished_behind};
 
 use crate::answer::AnswerNumbers;
@@ -27,7 +27,7 @@ impl ReelHandle {
         ensures samples { samples.new ≡ laid_over (plane_size (finished_behind self.old) plane) (plane_samples (finished_behind self.old) plane) samples.old }
         ensures handle { self.new ≡ self.old }
     {
-        self.kept().seat.copy_plane(plane, samples)
+        self.kept().reel.copy_plane(plane, samples)
     }
 
     // Copies the ages of the finished picture to a buffer that has room for them, and tells how many there are.
@@ -36,7 +36,7 @@ impl ReelHandle {
         ensures ages { ages.new ≡ laid_over (length (ages_behind self.old)) (ages_behind self.old) ages.old }
         ensures handle { self.new ≡ self.old }
     {
-        self.kept().seat.copy_ages(ages)
+        self.kept().reel.copy_ages(ages)
     }
 
     // Makes one call.

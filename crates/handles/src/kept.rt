@@ -1,35 +1,35 @@
 // A reel that is kept for C.
 ghost use Rattle.std.specs.Prelude.{◌≡◌};
 ghost use Rattle.calls.specs.Runs.{call_of};
-ghost use Rattle.seats.specs.Steps.{Turned};
+ghost use Rattle.reels_in_memory.specs.Steps.{Turned};
 
 use calls::answers::{Answer, Call};
 use core::mem::replace_with;
-use seats::seat::Seat;
+use reels_in_memory::reel_in_memory::ReelInMemory;
 
-// A reel in its seat that closes its open picture where it is let go: C may give a reel back at any time, and a slip has to be handed in.
+// A reel with its memory that closes its open picture where it is let go: C may give a reel back at any time, and a slip has to be handed in.
 pub struct KeptReel {
-    pub seat: Seat,
+    pub reel: ReelInMemory,
 }
 
 impl Drop for KeptReel {
     fn drop(self) {
-        let KeptReel { seat } = self;
-        seat.abandon();
+        let KeptReel { reel } = self;
+        reel.abandon();
     }
 }
 
 impl KeptReel {
-    pub fn new(seat: Seat) -> KeptReel
-        ensures { result.seat ≡ seat }
+    pub fn new(reel: ReelInMemory) -> KeptReel
+        ensures { result.reel ≡ reel }
     {
-        KeptReel { seat }
+        KeptReel { reel }
     }
 
     // Makes one call.
     pub fn step(&mut self, call: &Call<&[u8]>) -> Answer
-        ensures { Turned self.old.seat (call_of call.now) self.new.seat result }
+        ensures { Turned self.old.reel (call_of call.now) self.new.reel result }
     {
-        replace_with(&mut self.seat, call, Seat::step)
+        replace_with(&mut self.reel, call, ReelInMemory::step)
     }
 }

@@ -13,8 +13,8 @@ use Rattle.call_lines.specs.Lines.{line_of, line_meant}
 use Rattle.transcripts.specs.declared.transcript.Transcript.{Transcript}
 use Rattle.transcripts.specs.Answers.{Grown, done_text, line_after}
 use Rattle.transcripts.specs.Transcribed.{Transcribes, Transcribed, transcribed_in}
-use Rattle.seats.specs.declared.seat.Choices.{Choices}
-use Rattle.seats.specs.declared.seat.Seat.{Seat}
+use Rattle.reels_in_memory.specs.declared.reel_in_memory.Choices.{Choices}
+use Rattle.reels_in_memory.specs.declared.reel_in_memory.ReelInMemory.{ReelInMemory}
 use Rattle.player.specs.Plays.{Played, answers_to, done, ended, leaving, line_played, lines_played, transcribed_of}
 use Rattle.player.specs.Seen.{Plays, playing_in}
 use Rattle.transcripts.proofs.Transcribing.{transcribes_had}
@@ -23,17 +23,17 @@ use Rattle.player.proofs.Seeing.{Left, left_more, view}
 abbrev Said : Type 0
 Said = Result (Option Line) Mistake
 
-module _ (ls : List Said) (seat₀ : Option Seat) (choices₀ : Choices) (old : Transcript) where
+module _ (ls : List Said) (reel₀ : Option ReelInMemory) (choices₀ : Choices) (old : Transcript) where
   -- the lines from this one on are left to be played
-  abbrev pub PlayedTo : ℕ → Option Seat → Choices → Transcript → Type 0
-  PlayedTo index seat choices now = Left (lines_played 1 (map line_meant ls)) seat₀ choices₀ old (lines_played (index + 1) (map line_meant (drop index ls))) seat choices now
+  abbrev pub PlayedTo : ℕ → Option ReelInMemory → Choices → Transcript → Type 0
+  PlayedTo index reel choices now = Left (lines_played 1 (map line_meant ls)) reel₀ choices₀ old (lines_played (index + 1) (map line_meant (drop index ls))) reel choices now
 
   -- one line more is played
-  pub played : (index : ℕ) (seat : Option Seat) (choices : Choices) (now : Transcript) (l : Said) (seat' : Option Seat) (choices' : Choices) (new : Transcript) → PlayedTo index seat choices now
-      → l ≡ get_or ls index l → index < length ls → Plays (line_played (index + 1) (line_meant l)) seat choices now seat' choices' new → PlayedTo (index + 1) seat' choices' new
-  played index seat choices now l seat' choices' new was is below turn =
-      left_more (lines_played 1 (map line_meant ls)) seat₀ choices₀ old (lines_played (index + 1) (map line_meant (drop index ls))) (line_played (index + 1) (line_meant l))
-      (lines_played (index + 1 + 1) (map line_meant (drop (index + 1) ls))) seat choices now seat' choices' new was turn
+  pub played : (index : ℕ) (reel : Option ReelInMemory) (choices : Choices) (now : Transcript) (l : Said) (reel' : Option ReelInMemory) (choices' : Choices) (new : Transcript) → PlayedTo index reel choices now
+      → l ≡ get_or ls index l → index < length ls → Plays (line_played (index + 1) (line_meant l)) reel choices now reel' choices' new → PlayedTo (index + 1) reel' choices' new
+  played index reel choices now l reel' choices' new was is below turn =
+      left_more (lines_played 1 (map line_meant ls)) reel₀ choices₀ old (lines_played (index + 1) (map line_meant (drop index ls))) (line_played (index + 1) (line_meant l))
+      (lines_played (index + 1 + 1) (map line_meant (drop (index + 1) ls))) reel choices now reel' choices' new was turn
       (λ p. ap (λ k. lines_played (index + 1 + 1) (map line_meant (drop (index + 1) ls)) (line_played (index + 1) (line_meant k) p)) is
       ∙ sym (at_drop_more (λ xs. lines_played (index + 1) (map line_meant xs) p) ls index l below))
 
@@ -43,18 +43,18 @@ over_end all v v' None (Some t) e = ap (option_map ended) e
 over_end all v v' (Some t) None e = ap (option_map ended) e
 over_end all v v' (Some t) (Some u) e = ap (option_map ended) e
 
--- after the last line the seat is left
-pub all_played : (ls : List Said) (kind : StoreKind) (old : Transcript) (index : ℕ) (seat : Option Seat) (choices : Choices) (now new : Transcript)
-    → PlayedTo ls None (record { store = kind; transform = TwoPass }) old index seat choices now → length ls ≤ index → Transcribes (leaving (playing_in seat)) now new
+-- after the last line the reel is left
+pub all_played : (ls : List Said) (kind : StoreKind) (old : Transcript) (index : ℕ) (reel : Option ReelInMemory) (choices : Choices) (now new : Transcript)
+    → PlayedTo ls None (record { store = kind; transform = TwoPass }) old index reel choices now → length ls ≤ index → Transcribes (leaving (playing_in reel)) now new
     → Transcribes (transcribed_of kind (map line_meant ls)) old new
-all_played ls kind old index seat choices now new was last left =
+all_played ls kind old index reel choices now new was last left =
     let start : Choices = record { store = kind; transform = TwoPass } in
     record {
       transcribed = λ some.
           left.transcribed some
-          ∙ over_end (lines_played 1 (map line_meant ls)) (view None start) (view seat choices) (transcribed_in old) (transcribed_in now)
-          (ap (λ xs. option_map (lines_played (index + 1) (map line_meant xs)) (option_map (view seat choices) (transcribed_in now))) (sym (drop_all index ls last))
-          ∙ was.left (transcribes_had (leaving (playing_in seat)) now new left some));
+          ∙ over_end (lines_played 1 (map line_meant ls)) (view None start) (view reel choices) (transcribed_in old) (transcribed_in now)
+          (ap (λ xs. option_map (lines_played (index + 1) (map line_meant xs)) (option_map (view reel choices) (transcribed_in now))) (sym (drop_all index ls last))
+          ∙ was.left (transcribes_had (leaving (playing_in reel)) now new left some));
     }
 
 from_bytes : {A : Type 0} (o : Option (String A)) → option_map string_bytes o ≡ Some [] → ◌≡◌ {A = Option Transcribed} (option_map (λ s. record { text = string_bytes s; calls = 0; refused = 0 }) o) (Some (record { text = []; calls = 0; refused = 0 }))

@@ -20,9 +20,9 @@ use Rattle.transcripts.specs.declared.answers.Word.TheVariants as word
 use Rattle.transcripts.specs.Answers.{done_text, line_after, misread_text}
 use Rattle.transcripts.specs.Macroblocks.{numbered_text}
 use Rattle.transcripts.specs.Transcribed.{Transcribed, transcribe_done, transcribe_answer, with_line}
-use Rattle.seats.specs.Seats.{blank}
+use Rattle.reels_in_memory.specs.Memories.{blank}
 use Rattle.transform.specs.Kinds.{meaning_of}
-use Rattle.seats.specs.Transcriptions.{miss_call, transcribe_ages, transcribe_call, transcribe_leaving}
+use Rattle.reels_in_memory.specs.Transcriptions.{miss_call, transcribe_ages, transcribe_call, transcribe_leaving}
 
 -- the reel there is: what is the same throughout its run, and the state that it is in
 pub record Playing : Type 0 where

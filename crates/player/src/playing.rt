@@ -15,9 +15,9 @@ use calls::answers::{Answer, Call};
 use calls::faults::PictureFault;
 use records::checked::Delivery;
 use reel::reels::Reel;
+use reels_in_memory::reel_in_memory::{Choices, ReelInMemory};
 use script::fields::lines_of;
 use script::line::Records;
-use seats::seat::{Choices, Seat};
 use std::alloc::{AllocError, Global};
 use transcripts::answers::{Misread, Word};
 use transcripts::macroblocks::Numbered;
@@ -37,13 +37,17 @@ fn read_lines(heap: Global, script: &[u8]) -> Result<Vec<Said>, AllocError>
     Ok(lines)
 }
 
-// Makes a call on the reel there is, and transcribes the answer; without a reel it is out of turn. (The seat goes by value from step to step, and not in a struct
-// that is lent: a seat cannot be let go, so none can be put over another.)
-fn make_call(seat: Option<Seat>, call: &Call<&[u8]>, transcript: &mut Transcript) -> Option<Seat>
-    ensures { (choices : Choices) → Plays (make_call (call_of call.now)) seat choices transcript.old result choices transcript.new }
+// Makes a call on the reel there is, and transcribes the answer; without a reel it is out of turn. (The reel goes by value from step to step, and not in a
+// struct that is lent: a reel cannot be let go, so none can be put over another.)
+fn make_call(
+    reel: Option<ReelInMemory>,
+    call: &Call<&[u8]>,
+    transcript: &mut Transcript,
+) -> Option<ReelInMemory>
+    ensures { (choices : Choices) → Plays (make_call (call_of call.now)) reel choices transcript.old result choices transcript.new }
 {
-    match seat {
-        Some(seat) => Some(seat.make_call(call, transcript)),
+    match reel {
+        Some(reel) => Some(reel.make_call(call, transcript)),
         None => {
             transcript.answer(Word::from(call), Answer::OutOfTurn);
             None
@@ -51,32 +55,32 @@ fn make_call(seat: Option<Seat>, call: &Call<&[u8]>, transcript: &mut Transcript
     }
 }
 
-// Leaves the seat of the reel there was, if there was one.
-fn leave(seat: Option<Seat>, transcript: &mut Transcript)
-    ensures { Transcribes (leaving (playing_in seat)) transcript.old transcript.new }
+// Leaves the reel there was, if there was one.
+fn leave(reel: Option<ReelInMemory>, transcript: &mut Transcript)
+    ensures { Transcribes (leaving (playing_in reel)) transcript.old transcript.new }
 {
-    if let Some(seat) = seat {
-        seat.leave(transcript);
+    if let Some(reel) = reel {
+        reel.leave(transcript);
     }
 }
 
 // Begins a new reel. A refused one leaves the reel there was, with its open picture.
 fn begin(
-    seat: Option<Seat>,
+    reel: Option<ReelInMemory>,
     heap: Global,
     format: u32,
     choices: Choices,
     transcript: &mut Transcript,
-) -> Option<Seat>
-    ensures { Plays (begun (format_of_number format)) seat choices transcript.old result choices transcript.new }
+) -> Option<ReelInMemory>
+    ensures { Plays (begun (format_of_number format)) reel choices transcript.old result choices transcript.new }
 {
     match Reel::new(format) {
-        Ok(reel) => {
-            leave(seat, transcript);
-            match Seat::new(heap, reel, choices) {
-                Ok(seat) => {
+        Ok(resting) => {
+            leave(reel, transcript);
+            match ReelInMemory::new(heap, resting, choices) {
+                Ok(reel) => {
                     transcript.accept(Word::New);
-                    Some(seat)
+                    Some(reel)
                 }
                 Err(_) => {
                     transcript.fall_short();
@@ -86,16 +90,16 @@ fn begin(
         }
         Err(fault) => {
             transcript.answer(Word::New, Answer::Refused(fault));
-            seat
+            reel
         }
     }
 }
 
-fn transcribe_ages(seat: &Option<Seat>, transcript: &mut Transcript)
-    ensures { Transcribes (ages_on (playing_in seat.now)) transcript.old transcript.new }
+fn transcribe_ages(reel: &Option<ReelInMemory>, transcript: &mut Transcript)
+    ensures { Transcribes (ages_on (playing_in reel.now)) transcript.old transcript.new }
 {
-    match seat {
-        Some(seat) => seat.transcribe_ages(transcript),
+    match reel {
+        Some(reel) => reel.transcribe_ages(transcript),
         None => transcript.answer(Word::Ages, Answer::OutOfTurn),
     }
 }
@@ -135,23 +139,23 @@ fn transcribe_records(records: &Records, transcript: &mut Transcript)
 
 // Plays a line.
 fn play_line(
-    seat: Option<Seat>,
+    reel: Option<ReelInMemory>,
     heap: Global,
     number: usize,
     line: &Said,
     choices: &mut Choices,
     transcript: &mut Transcript,
-) -> Option<Seat>
-    ensures { Plays (line_played number (line_meant line.now)) seat choices.old transcript.old result choices.new transcript.new }
+) -> Option<ReelInMemory>
+    ensures { Plays (line_played number (line_meant line.now)) reel choices.old transcript.old result choices.new transcript.new }
 {
     match line {
         Ok(Some(Line::Store(kind))) => choices.store = *kind,
         Ok(Some(Line::Transform(kind))) => choices.transform = *kind,
         Ok(Some(Line::New { format })) => {
-            return begin(seat, heap, *format, *choices, transcript);
+            return begin(reel, heap, *format, *choices, transcript);
         }
-        Ok(Some(Line::Call(call))) => return make_call(seat, &call.lent(), transcript),
-        Ok(Some(Line::Ages)) => transcribe_ages(&seat, transcript),
+        Ok(Some(Line::Call(call))) => return make_call(reel, &call.lent(), transcript),
+        Ok(Some(Line::Ages)) => transcribe_ages(&reel, transcript),
         Ok(Some(Line::Records(records))) => transcribe_records(records, transcript),
         Ok(None) => {}
         Err(mistake) => transcript.add(Misread {
@@ -159,7 +163,7 @@ fn play_line(
             mistake: *mistake,
         }),
     }
-    seat
+    reel
 }
 
 // Plays lines, one after the other.
@@ -170,11 +174,11 @@ fn play_lines(heap: Global, lines: &[Said], store: StoreKind, transcript: &mut T
         store,
         transform: TransformKind::TwoPass,
     };
-    let mut seat = None;
+    let mut reel = None;
     for (index, line) in lines.iter().enumerate() {
-        seat = play_line(seat, heap, index + 1, line, &mut choices, transcript);
+        reel = play_line(reel, heap, index + 1, line, &mut choices, transcript);
     }
-    leave(seat, transcript);
+    leave(reel, transcript);
 }
 
 // The text of the answers to a script, where reels are stored as said until the script says otherwise.

@@ -10,7 +10,7 @@ use Rattle.player.proofs.playing.make_call.Goals as goal
 pub returns-in-Some : goal.returns-in-Some
 returns-in-Some c = λ choices.
     subst (λ s. Plays (make_call (call_of c.args.call.now)) s choices c.args.transcript.now (Some c.make_call.result) choices c.make_call.new.transcript) (sym c.in-Some.is)
-    (made_plays (call_of c.args.call.now) c.in-Some.seat c.make_call.result choices c.args.transcript.now c.make_call.new.transcript c.make_call.ensures.turned.state c.make_call.ensures.turned.setting c.make_call.ensures.transcribed)
+    (made_plays (call_of c.args.call.now) c.in-Some.reel c.make_call.result choices c.args.transcript.now c.make_call.new.transcript c.make_call.ensures.turned.state c.make_call.ensures.turned.setting c.make_call.ensures.transcribed)
 
 pub returns-in-None : goal.returns-in-None
 returns-in-None c = λ choices.

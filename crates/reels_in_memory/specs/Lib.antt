@@ -1,0 +1,4 @@
+pub mod Memories
+pub mod Copies
+pub mod Transcriptions
+pub mod Steps

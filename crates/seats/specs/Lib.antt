@@ -1,4 +1,0 @@
-pub mod Seats
-pub mod Copies
-pub mod Transcriptions
-pub mod Steps

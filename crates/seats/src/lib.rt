@@ -1,9 +1,0 @@
-// A reel in its seat: with the memory in the store, and the transform, that a script chose for it. Makes the calls of lines and transcribes the answers.
-// Relies on `replay` for the calls, on `call_lines` for the lines and on `transcripts` for the text. Where memory for the text fails while a picture is open the
-// calls go on without it, since the slip has to be handed in whatever happens; the text is then withheld as a whole.
-#![tactic(auto)]
-
-pub mod calling;
-mod copies;
-mod memories;
-pub mod seat;
