@@ -8,13 +8,13 @@ use Rattle.records.specs.declared.types.PictureKind.TheVariants as picture
 use Rattle.records.specs.Reading.{and_then, ask}
 use Rattle.samples.specs.declared.prediction.Rounding.{Rounding}
 use Rattle.pictures.specs.declared.formats.Format.{Format}
-use Rattle.pictures.specs.Pictures.{covers}
+use Rattle.pictures.specs.Pictures.{Picture, covers}
 use Rattle.pictures.specs.Segments.{has_bit, segment_at, segment_count, sound}
 use Rattle.calls.specs.declared.faults.PictureFault.{PictureFault}
 use Rattle.calls.specs.declared.faults.PictureFault.TheVariants as fault
-use Rattle.calls.specs.Held.{Held, fits}
-use Rattle.calls.specs.Questions.{judge_delivery, kind_of, passed, rounding_from, sound_kind}
-use Rattle.calls.specs.Effects.{picture_closed, segment_rebuilt}
+use Rattle.calls.specs.Held.{Held, fits, fits_store, fits_table}
+use Rattle.calls.specs.Questions.{judge_age, judge_delivery, judge_sample, kind_of, passed, rounding_from, sound_kind}
+use Rattle.calls.specs.Effects.{age_at, picture_closed, segment_rebuilt}
 use Rattle.reel.specs.declared.reels.Reel.{Reel}
 use Rattle.reel.specs.declared.reels.Slip.{Slip}
 
@@ -102,3 +102,10 @@ held_closed slip (Err f) held = held
 abbrev pub value_or_fault : Result (Unit {0}) PictureFault → ℕ → Result ℕ PictureFault
 value_or_fault (Ok _) value = Ok value
 value_or_fault (Err f) value = Err f
+
+-- a sample of the finished picture, and an age of it
+abbrev pub sample_of : Reel → Picture → ℕ → ℕ → ℕ → Result ℕ PictureFault
+sample_of reel f plane across down = value_or_fault (judge_sample (fits_store reel.format f) reel.format reel.finished plane across down) (f.sample plane across down)
+
+abbrev pub age_of : Reel → List ℕ → ℕ → ℕ → Result ℕ PictureFault
+age_of reel ages column row = value_or_fault (judge_age (fits_table reel.format ages) reel.format reel.finished column row) (age_at reel.format ages column row)

@@ -1,10 +1,8 @@
 // The two questions: a sample and an age of the finished picture. They write nothing.
 ghost use Rattle.std.specs.Prelude.{◌≡◌, ℕ, ◌<◌, true};
 ghost use Rattle.pictures.specs.Formats.{columns_of, rows_of};
-ghost use Rattle.calls.specs.Effects.{age_at};
-ghost use Rattle.calls.specs.Held.{fits_store, fits_table};
-ghost use Rattle.calls.specs.Questions.{in_grid, judge_age, judge_sample};
-ghost use Rattle.reel.specs.Calls.{value_or_fault};
+ghost use Rattle.calls.specs.Questions.{in_grid};
+ghost use Rattle.reel.specs.Calls.{age_of, sample_of};
 
 use crate::memory::{fits_store, fits_table};
 use crate::reels::Reel;
@@ -28,7 +26,7 @@ impl Reel {
         across: u32,
         down: u32,
     ) -> Result<u8, PictureFault>
-        ensures { result ≡ value_or_fault (judge_sample (fits_store self.now.format (S.picture finished.now)) self.now.format self.now.finished plane across down) ((S.picture finished.now).sample plane across down) }
+        ensures { result ≡ sample_of self.now (S.picture finished.now) plane across down }
     {
         if !fits_store(self.format, finished) {
             return Err(PictureFault::Size);
@@ -46,7 +44,7 @@ impl Reel {
 
     // An age of the finished picture, of which the ages are given: by column and row.
     pub fn age(&self, ages: &[u8], column: u32, row: u32) -> Result<u8, PictureFault>
-        ensures { result ≡ value_or_fault (judge_age (fits_table self.now.format ages.now) self.now.format self.now.finished column row) (age_at self.now.format ages.now column row) }
+        ensures { result ≡ age_of self.now ages.now column row }
     {
         if !fits_table(self.format, ages) {
             return Err(PictureFault::Size);

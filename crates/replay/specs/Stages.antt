@@ -50,8 +50,8 @@ abbrev pub reply_to : (List ℤ → ℕ → ℕ → ℤ) → Stage → Held → 
 reply_to meaning stage held call = reply (setting_at stage meaning held) (state_of stage held) call
 
 -- the calls of a list for whose answers there is room
-abbrev pub calls_with_room : List Answer → List (Call (Bor (List ℕ))) → List Calling
-calls_with_room room calls = calls_of (take (length room) calls)
+abbrev pub with_room : List Answer → List (Call (Bor (List ℕ))) → List Calling
+with_room room calls = calls_of (take (length room) calls)
 
 -- what a call gives, as a stage and an answer
 abbrev pub open_turn : Result (Slip × ℕ) (Reel × PictureFault) → Stage × Answer

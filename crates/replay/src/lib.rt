@@ -6,7 +6,7 @@ ghost use Rattle.calls.specs.Held.{fits};
 ghost use Rattle.calls.specs.Laws.{LawOverRuns, granted};
 ghost use Rattle.calls.specs.Runs.{call_of};
 ghost use Rattle.reel.specs.Memories.{held_in};
-ghost use Rattle.replay.specs.Stages.{NoneWrites, Replayed, answer_to, calls_with_room, close_turn, format_of, open_turn, reel_of, reply_to, spent_of, state_after, state_of, writes};
+ghost use Rattle.replay.specs.Stages.{NoneWrites, Replayed, answer_to, close_turn, format_of, open_turn, reel_of, reply_to, spent_of, state_after, state_of, with_room, writes};
 
 use calls::answers::{Answer, Call};
 use calls::faults::PictureFault;
@@ -125,7 +125,7 @@ pub fn replay<S: Store, T: Transform>(
     calls: &[Call<&[u8]>],
     answers: &mut [Answer],
 ) -> Stage
-    ensures runs { Replayed (T.meaning transform.now) stage (held_in S.picture memory.old) (calls_with_room answers.old calls.now) result (held_in S.picture memory.new) (take (length calls.now) answers.new) }
+    ensures runs { Replayed (T.meaning transform.now) stage (held_in S.picture memory.old) (with_room answers.old calls.now) result (held_in S.picture memory.new) (take (length calls.now) answers.new) }
     ensures rest { drop (length calls.now) answers.new ≡ drop (length calls.now) answers.old }
     ensures untouched { NoneWrites (take (length calls.now) answers.new) → memory.new ≡ memory.old }
     ensures format { format_of result ≡ format_of stage }
