@@ -8,7 +8,7 @@ use Rattle.pictures.specs.Formats.{columns_of, rows_of}
 use Rattle.pictures.specs.Pictures.{covers, inside, side}
 use Rattle.pictures.specs.Segments.{first_row, segment_at, segment_of_row}
 use Rattle.pictures.proofs.Rows.{segmented}
-use Rattle.deblocking.proofs.Edges.{by_side}
+use Rattle.pictures.proofs.Addresses.{by_side}
 use Rattle.rebuild.specs.Rebuilt.{count_of, first_cell, set_from}
 use Rattle.rebuild.proofs.Cells.{rows_join}
 use Rattle.calls.specs.Held.{cells_of}

@@ -1,21 +1,14 @@
 -- Edges are filtered part by part, each from samples that no part before has touched.
-use Rattle.std.proofs.Common.{◌≡◌, ℕ, ◌+◌, ◌*◌, ◌/◌, ◌<◌, ◌≤◌, max, Bool, true, false, cond, ◌&&◌, ◌||◌, eqb, ltb, leb, Some, Option, sym, refl, ap, ◌∙◌, ⊎_elim, arith}
+use Rattle.std.proofs.Common.{◌≡◌, ℕ, ◌+◌, ◌*◌, ◌/◌, ◌<◌, ◌≤◌, max, Bool, true, false, ◌&&◌, ◌||◌, eqb, ltb, leb, Some, Option, sym, refl, ap, ◌∙◌, ⊎_elim, arith}
 use mathlib.Core.Bool.{and_comm}
 use Rattle.std.proofs.lemmas.Bool.{and_right, cases_eq, cond-false, ne_eqb}
 use Rattle.std.proofs.lemmas.Bool.Decides.{nat_tests}
 use Rattle.samples.specs.Deblocking.{deblocked, strength_of}
 use Rattle.pictures.specs.Pictures.{Picture, has, inside, painted, side}
 use Rattle.pictures.specs.declared.layouts.Segment.{Segment}
+use Rattle.pictures.proofs.Addresses.{by_side}
 use Rattle.pictures.proofs.Painting.{same_picture}
 use Rattle.deblocking.specs.Edges.{turn, edge, role, first, four_from, of_role, deblocked_at, border, edges, edges_in}
-
--- what holds with 16 samples to a macroblock and with 8 holds in each plane
-pub by_side : (P : ℕ → Type 0) (p : ℕ) → P 16 → P 8 → P (side p)
-by_side P p a b = at (eqb p 0)
-  where
-    at : (t : Bool) → P (cond t 16 8)
-    at true = a
-    at false = b
 
 -- the macroblock that a coordinate lies in is one of those whose samples begin before it and end after it
 pub between : (q a b u : ℕ) → a * side q ≤ u → u < b * side q → (a ≤ u / side q) × (u / side q < b)

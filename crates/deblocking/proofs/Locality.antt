@@ -4,7 +4,8 @@ use Rattle.std.proofs.lemmas.Bool.{and_from, both_ways, le-leb, lt-ltb}
 use Rattle.pictures.specs.Pictures.{Picture, covers, has, painted, side}
 use Rattle.pictures.specs.declared.layouts.Segment.{Segment}
 use Rattle.deblocking.specs.Edges.{Local, SameMarks, across_of, down_of, edge, role, first, deblocked_at, mark_at, quantizer_at, edges_in, filtered, filtered_over, turn, turn_segment}
-use Rattle.deblocking.proofs.Edges.{between, by_side, inside_says, deblocked_same, unpainted}
+use Rattle.pictures.proofs.Addresses.{by_side}
+use Rattle.deblocking.proofs.Edges.{between, inside_says, deblocked_same, unpainted}
 
 -- all four samples of an edge inside a segment are the segment's
 rows_covered : (q a b n j : ℕ) → a * side q < n * 8 → n * 8 < b * side q → j < 4 → (a * side q ≤ first n + j) × (first n + j < b * side q)

@@ -10,7 +10,7 @@ use Rattle.pictures.specs.declared.layouts.Segment.{Segment}
 use Rattle.pictures.specs.Pictures.{Picture, covers, side}
 use Rattle.prediction.specs.Window.{brought_inside, prediction_at, window}
 use Rattle.deblocking.specs.Edges.{filtered}
-use Rattle.deblocking.proofs.Edges.{by_side}
+use Rattle.pictures.proofs.Addresses.{by_side}
 use Rattle.rebuild.specs.Blocks.{predicted_from}
 use Rattle.rebuild.specs.Laws.{Independent}
 use Rattle.rebuild.specs.Macroblocks.{coded_sample, macroblock_sample, source_for}

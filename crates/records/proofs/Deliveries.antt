@@ -35,8 +35,8 @@ module _ (kind : PictureKind) (n m k : ℕ) (s : Unread) where
       rw (i, ← e) (intra_counted_more k d x (macroblocks_from (n - (m + 1)) kind t (m + 1)) o)
 
 -- the answer by the count of the INTRA macroblocks, and what is told of it after the last word
-abbrev pub told : ℕ → List ℕ → Result (ℕ × Unread) SegmentFault → Result Delivered SegmentFault
-told n bytes r = and_then (λ f. f) r (λ q. and_then (λ f. f) (end_from n q.1) (λ _. Ok (record { words = length bytes / 4; intra = q.0 })))
+abbrev pub answer_or_fault : ℕ → List ℕ → Result (ℕ × Unread) SegmentFault → Result Delivered SegmentFault
+answer_or_fault n bytes r = and_then (λ f. f) r (λ q. and_then (λ f. f) (end_from n q.1) (λ _. Ok (record { words = length bytes / 4; intra = q.0 })))
 
 at_end : (bytes : List ℕ) (ms : List Macroblock) (e : Result (Unit {0}) SegmentFault)
     → and_then (λ f. f) (and_then (λ f. f) e (λ _. Ok ms)) (λ xs. Ok (delivered_of bytes xs)) ≡ and_then (λ f. f) e (λ _. Ok (record { words = length bytes / 4; intra = 0 + intra_count ms }))
@@ -44,12 +44,12 @@ at_end bytes ms (Ok u) = let none : intra_count ms ≡ 0 + intra_count ms = omeg
 at_end bytes ms (Err f) = refl
 
 by_count : (n : ℕ) (bytes : List ℕ) (w : Result (Unit {0}) WordFault) (r : Result (List Macroblock × Unread) SegmentFault)
-    → and_then (λ f. f) (and_then in_segment w (λ _. and_then (λ f. f) r (λ q. and_then (λ f. f) (end_from n q.1) (λ _. Ok q.0)))) (λ ms. Ok (delivered_of bytes ms)) ≡ and_then in_segment w (λ _. told n bytes (intra_counted 0 r))
+    → and_then (λ f. f) (and_then in_segment w (λ _. and_then (λ f. f) r (λ q. and_then (λ f. f) (end_from n q.1) (λ _. Ok q.0)))) (λ ms. Ok (delivered_of bytes ms)) ≡ and_then in_segment w (λ _. answer_or_fault n bytes (intra_counted 0 r))
 by_count n bytes (Err f) r = refl
 by_count n bytes (Ok u) (Err f) = refl
 by_count n bytes (Ok u) (Ok q) = at_end bytes q.0 (end_from n q.1)
 
-pub answered_is : (kind : PictureKind) (n : ℕ) (bytes : List ℕ) → answered kind n bytes ≡ and_then in_segment (whole_words bytes) (λ _. told n bytes (intra_counted 0 (macroblocks_from n kind (words_of bytes, 0) 0)))
+pub answered_is : (kind : PictureKind) (n : ℕ) (bytes : List ℕ) → answered kind n bytes ≡ and_then in_segment (whole_words bytes) (λ _. answer_or_fault n bytes (intra_counted 0 (macroblocks_from n kind (words_of bytes, 0) 0)))
 unfolding read
 answered_is kind n bytes = by_count n bytes (whole_words bytes) (macroblocks_from n kind (words_of bytes, 0) 0)
 

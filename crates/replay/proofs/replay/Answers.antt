@@ -25,15 +25,15 @@ loop-index-preserved g c =
     let i = c.loop-index.index in
     let was = c.loop-index.invariant in
     let made = c.with_room-made.result.now in
-    let told = c.step-next.result.1 in
+    let answer = c.step-next.result.1 in
     let below : i < length answers = omega (arith, ap length c.with_room-made.ensures, length-take (length c.args.answers.now) c.args.calls.now) in
-    let more : take (i + 1) (set answers i told) ≡ take i answers ++ (told ∷ []) = take_more_set answers i told below in
+    let more : take (i + 1) (set answers i answer) ≡ take i answers ++ (answer ∷ []) = take_more_set answers i answer below in
     record {
       left =
           one_done _ _ _ _ _ _ _ _ _ _ _ _ _ _ was.left (ap calls_of (drop_more made i (Open 0 0 0) c.loop-index-test.true))
           c.step-next.ensures.state c.step-next.ensures.answer c.step-next.ensures.format c.step-next.ensures.unspent c.step-next.ensures.stays more;
-      room = room_more answers c.args.answers.now i told was.room;
-      untouched = λ none. let apart = All-pop (λ a. writes a ≡ false) _ (take i answers) (Some told) more none in c.step-next.ensures.untouched apart.1 ∙ was.untouched apart.0;
+      room = room_more answers c.args.answers.now i answer was.room;
+      untouched = λ none. let apart = All-pop (λ a. writes a ≡ false) _ (take i answers) (Some answer) more none in c.step-next.ensures.untouched apart.1 ∙ was.untouched apart.0;
     }
 
 pub returns : goal.returns
@@ -47,8 +47,8 @@ returns g c =
     let same : min (length calls) (length answers) ≡ min (length calls) (length c.args.answers.now) = omega arith in
     let front : take i answers ≡ take (length calls) answers = ap (λ k. take k answers) all ∙ take_min (length calls) answers in
     let done = all_done _ _ _ _ _ _ _ _ was.left (ap calls_of (drop_all i made c.loop-index-test.false)) in
-    let P : List (Call (Bor (List ℕ))) → List Answer → Type 0 = λ cs told.
-    Replayed (g.T.Transform.meaning c.args.transform.now) c.args.stage (held_in g.S.Store.picture c.args.memory.now) (calls_of cs) c.loop-index.stage (held_in g.S.Store.picture c.loop-index.memory) told in
+    let P : List (Call (Bor (List ℕ))) → List Answer → Type 0 = λ cs answer.
+    Replayed (g.T.Transform.meaning c.args.transform.now) c.args.stage (held_in g.S.Store.picture c.args.memory.now) (calls_of cs) c.loop-index.stage (held_in g.S.Store.picture c.loop-index.memory) answer in
     record {
       runs = subst (λ cs. P cs (take (length calls) answers)) c.with_room-made.ensures (subst (P made) front done);
       rest =

@@ -2,7 +2,8 @@ use Rattle.std.proofs.Common.{◌≡◌, ℕ, ◌+◌, ◌*◌, ◌/◌, ◌≤�
 use Rattle.pictures.specs.Pictures.{side}
 use Rattle.pictures.proofs.Painting.{none, alike}
 use Rattle.deblocking.specs.Edges.{edge_mark, quantizer_at, is_vertical, turn}
-use Rattle.deblocking.proofs.Edges.{between, by_side, filtered_on, none_along, until_along}
+use Rattle.pictures.proofs.Addresses.{by_side}
+use Rattle.deblocking.proofs.Edges.{between, filtered_on, none_along, until_along}
 use Rattle.deblocking.proofs.Edge.filter_along.Goals as goal
 
 -- macroblocks and the samples along them
