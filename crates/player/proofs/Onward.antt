@@ -9,16 +9,16 @@ use Rattle.script.specs.Fields.{lines_of}
 use Rattle.call_lines.specs.declared.line.Line.{Line}
 use Rattle.call_lines.specs.declared.line.StoreKind.{StoreKind}
 use Rattle.transform.specs.declared.kinds.TransformKind.TheVariants.{TwoPass}
-use Rattle.call_lines.specs.Lines.{line_of, line_meant}
+use Rattle.call_lines.specs.Lines.{line_meant, line_of}
 use Rattle.transcripts.specs.declared.transcript.Transcript.{Transcript}
 use Rattle.transcripts.specs.Answers.{Grown, done_text, line_after}
-use Rattle.transcripts.specs.Transcribed.{Transcribes, Transcribed, transcribed_in}
+use Rattle.transcripts.specs.Transcribed.{Transcribed, Transcribes, transcribed_in}
 use Rattle.reels_in_memory.specs.declared.reel_in_memory.Choices.{Choices}
 use Rattle.reels_in_memory.specs.declared.reel_in_memory.ReelInMemory.{ReelInMemory}
-use Rattle.player.specs.Plays.{Played, answers_to, done, ended, leaving, line_played, lines_played, transcribed_of}
-use Rattle.player.specs.Seen.{Plays, playing_in}
+use Rattle.player.specs.Plays.{Played, answers_to, at_end, done, leaving, line_played, lines_played, transcribed_of}
+use Rattle.player.specs.PlayedIn.{Plays, playing_in}
 use Rattle.transcripts.proofs.Transcribing.{transcribes_had}
-use Rattle.player.proofs.Seeing.{Left, left_more, view}
+use Rattle.player.proofs.Steps.{Left, left_more, view}
 
 abbrev Said : Type 0
 Said = Result (Option Line) Mistake
@@ -37,11 +37,11 @@ module _ (ls : List Said) (reel₀ : Option ReelInMemory) (choices₀ : Choices)
       (λ p. ap (λ k. lines_played (index + 1 + 1) (map line_meant (drop (index + 1) ls)) (line_played (index + 1) (line_meant k) p)) is
       ∙ sym (at_drop_more (λ xs. lines_played (index + 1) (map line_meant xs) p) ls index l below))
 
-over_end : (all : Played → Played) (v v' : Transcribed → Played) (o o' : Option Transcribed) → option_map (λ p. p) (option_map v' o') ≡ option_map all (option_map v o) → option_map (λ t. ended (v' t)) o' ≡ option_map (λ t. ended (all (v t))) o
+over_end : (all : Played → Played) (v v' : Transcribed → Played) (o o' : Option Transcribed) → option_map (λ p. p) (option_map v' o') ≡ option_map all (option_map v o) → option_map (λ t. at_end (v' t)) o' ≡ option_map (λ t. at_end (all (v t))) o
 over_end all v v' None None e = refl
-over_end all v v' None (Some t) e = ap (option_map ended) e
-over_end all v v' (Some t) None e = ap (option_map ended) e
-over_end all v v' (Some t) (Some u) e = ap (option_map ended) e
+over_end all v v' None (Some t) e = ap (option_map at_end) e
+over_end all v v' (Some t) None e = ap (option_map at_end) e
+over_end all v v' (Some t) (Some u) e = ap (option_map at_end) e
 
 -- after the last line the reel is left
 pub all_played : (ls : List Said) (kind : StoreKind) (old : Transcript) (index : ℕ) (reel : Option ReelInMemory) (choices : Choices) (now new : Transcript)

@@ -1,2 +1,2 @@
 pub mod Plays
-pub mod Seen
+pub mod PlayedIn

@@ -19,7 +19,7 @@ use Rattle.call_lines.specs.Lines.{Meaning, ages, call, line_of, new, records, s
 use Rattle.transcripts.specs.declared.answers.Word.TheVariants as word
 use Rattle.transcripts.specs.Answers.{done_text, line_after, misread_text}
 use Rattle.transcripts.specs.Macroblocks.{numbered_text}
-use Rattle.transcripts.specs.Transcribed.{Transcribed, transcribe_done, transcribe_answer, with_line}
+use Rattle.transcripts.specs.Transcribed.{Transcribed, transcribe_answer, transcribe_done, with_line}
 use Rattle.reels_in_memory.specs.Memories.{blank}
 use Rattle.transform.specs.Kinds.{meaning_of}
 use Rattle.reels_in_memory.specs.Transcriptions.{miss_call, transcribe_ages, transcribe_call, transcribe_leaving}
@@ -110,12 +110,12 @@ lines_played n [] p = p
 lines_played n (l ∷ ls) p = lines_played (n + 1) ls (line_played n l p)
 
 -- a picture that is open in the end is closed
-abbrev pub ended : Played → Transcribed
-ended p = leaving p.reel p.transcribed
+abbrev pub at_end : Played → Transcribed
+at_end p = leaving p.reel p.transcribed
 
 -- all that is transcribed of lines, where reels are stored as said until the lines say otherwise
 abbrev pub transcribed_of : StoreKind → List (Result (Option Meaning) Mistake) → Transcribed → Transcribed
-transcribed_of kind lines t = ended (lines_played 1 lines (started kind t))
+transcribed_of kind lines t = at_end (lines_played 1 lines (started kind t))
 
 -- the last line
 abbrev pub done : Transcribed → List ℕ

@@ -5,10 +5,10 @@ ghost use Rattle.pictures.specs.Formats.{format_of_number};
 ghost use Rattle.script.specs.Fields.{lines_of};
 ghost use Rattle.script.specs.Lines.{records_meant};
 ghost use Rattle.calls.specs.Runs.{call_of};
-ghost use Rattle.call_lines.specs.Lines.{line_of, line_meant};
+ghost use Rattle.call_lines.specs.Lines.{line_meant, line_of};
 ghost use Rattle.transcripts.specs.Transcribed.{Transcribes};
 ghost use Rattle.player.specs.Plays.{ages_on, answers_to, begun, leaving, line_played, make_call, transcribe_macroblocks, transcribe_records, transcribed_of};
-ghost use Rattle.player.specs.Seen.{Plays, playing_in};
+ghost use Rattle.player.specs.PlayedIn.{Plays, playing_in};
 
 use call_lines::line::{Line, Said, StoreKind, read_line};
 use calls::answers::{Answer, Call};

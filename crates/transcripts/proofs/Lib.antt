@@ -1,3 +1,4 @@
 pub mod Summed
 pub mod Padded
+pub mod Options
 pub mod Transcribing

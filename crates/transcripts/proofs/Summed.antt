@@ -1,6 +1,6 @@
 -- Sums, a byte at a time.
 use Rattle.std.proofs.Common.{◌≡◌, ℕ, ◌+◌, refl, add-one}
-use Rattle.transcripts.specs.Sums.{sum_with_row, sum_of_rows, sum_more}
+use Rattle.transcripts.specs.Sums.{sum_more, sum_of_rows, sum_with_row}
 
 pub row_none : (sample : ℕ → ℕ → ℕ) (down sum : ℕ) → sum_with_row sample down 0 sum ≡ sum
 unfolding sum_with_row

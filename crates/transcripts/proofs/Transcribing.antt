@@ -1,9 +1,10 @@
 -- What is transcribed, step after step.
-use Rattle.std.proofs.Common.{◌≡◌, ℕ, Bool, IsSome, Some, None, Option, string_bytes, String, sym, refl, ap, ◌∙◌, true≢false}
-use Rattle.std.specs.Option.{option_map, is_some}
+use Rattle.std.proofs.Common.{◌≡◌, ℕ, Bool, IsSome, Some, None, Option, string_bytes, String, subst, refl, ap, ◌∙◌}
+use Rattle.std.specs.Option.{option_map}
 use Rattle.transcripts.specs.declared.transcript.Transcript.{Transcript}
+use Rattle.transcripts.proofs.Options.{mapped, some_in, some_out}
 use Rattle.transcripts.specs.Tallies.{one_more, one_more_if}
-use Rattle.transcripts.specs.Transcribed.{Transcribes, Transcribed, with_call, transcribed_in}
+use Rattle.transcripts.specs.Transcribed.{Transcribed, Transcribes, transcribed_in, with_call}
 
 abbrev with_counts : {A : Type 0} → Option (String A) → ℕ → ℕ → Option Transcribed
 with_counts o calls refused = option_map (λ s. record { text = string_bytes s; calls = calls; refused = refused }) o
@@ -16,30 +17,16 @@ call_more (Some s) calls refused was = refl
 pub transcribes_count : (was : Bool) (old new : Transcript) → new.calls ≡ one_more old.calls → new.refused ≡ one_more_if was old.refused → new.text ≡ old.text → Transcribes (with_call was) old new
 transcribes_count was old new c r t = record { transcribed = λ some. rw (c, r, t) (call_more old.text old.calls old.refused was) }
 
-had : {X Y Z : Type 0} (f : X → Y) (a : Option X) (h : Z → Y) (b : Option Z) → option_map h b ≡ option_map f a → IsSome b → IsSome a
-had f None h None e some = absurd (true≢false (sym some))
-had f None h (Some z) e some = absurd (true≢false (ap is_some e))
-had f (Some x) h b e some = refl
-
-from_view : {A : Type 0} (v : String A → Transcribed) (o : Option (String A)) → IsSome (option_map v o) → IsSome o
-from_view v None some = some
-from_view v (Some s) some = refl
-
-transcribed_had : (f : Transcribed → Transcribed) (a b : Transcript) → transcribed_in b ≡ option_map f (transcribed_in a) → IsSome b.text → IsSome a.text
-transcribed_had f a b e some = from_view (λ s. record { text = string_bytes s; calls = a.calls; refused = a.refused }) a.text (had f (transcribed_in a) (λ s. record { text = string_bytes s; calls = b.calls; refused = b.refused }) b.text e some)
-
 -- there was a text before
 pub transcribes_had : (f : Transcribed → Transcribed) (a b : Transcript) → Transcribes f a b → IsSome b.text → IsSome a.text
-transcribes_had f a b t some = transcribed_had f a b (t.transcribed some) some
-
-map_map : (f g : Transcribed → Transcribed) (o : Option Transcribed) → option_map g (option_map f o) ≡ option_map (λ t. g (f t)) o
-map_map f g None = refl
-map_map f g (Some x) = refl
+transcribes_had f a b t some =
+    some_out _ a.text (some_out f (transcribed_in a)
+    (subst IsSome (t.transcribed some) (some_in (λ s. record { text = string_bytes s; calls = b.calls; refused = b.refused }) b.text some)))
 
 -- one thing is transcribed after another
 pub transcribes_then : (f g : Transcribed → Transcribed) (a b c : Transcript) → Transcribes f a b → Transcribes g b c → Transcribes (λ t. g (f t)) a c
 transcribes_then f g a b c p q =
-    record { transcribed = λ some. q.transcribed some ∙ ap (option_map g) (p.transcribed (transcribes_had g b c q some)) ∙ map_map f g (transcribed_in a) }
+    record { transcribed = λ some. q.transcribed some ∙ ap (option_map g) (p.transcribed (transcribes_had g b c q some)) ∙ mapped f g (λ t. g (f t)) (transcribed_in a) (λ t. refl) }
 
 map_as : (f g : Transcribed → Transcribed) (o : Option Transcribed) → ((t : Transcribed) → f t ≡ g t) → option_map f o ≡ option_map g o
 map_as f g None e = refl
@@ -55,4 +42,4 @@ pub record Leads (f : Transcribed → Transcribed) (a : Transcript) (g : Transcr
 
 pub leads_more : (f g h g' : Transcribed → Transcribed) (a b c : Transcript) → Leads f a g b → Transcribes h b c → ((t : Transcribed) → g' (h t) ≡ g t) → Leads f a g' c
 leads_more f g h g' a b c was now e =
-    record { left = λ some. ap (option_map g') (now.transcribed some) ∙ map_map h g' (transcribed_in b) ∙ map_as (λ t. g' (h t)) g (transcribed_in b) e ∙ was.left (transcribes_had h b c now some) }
+    record { left = λ some. ap (option_map g') (now.transcribed some) ∙ mapped h g' g (transcribed_in b) e ∙ was.left (transcribes_had h b c now some) }

@@ -1,7 +1,7 @@
 // The answer to a call, as the text of a line.
 ghost use Rattle.std.specs.Prelude.{◌≡◌, Some};
 ghost use Rattle.calls.specs.Runs.{call_of};
-ghost use Rattle.transcripts.specs.Answers.{ages_text, answer_text, later_ages, mistake_text, misread_text, word_for, word_text};
+ghost use Rattle.transcripts.specs.Answers.{ages_text, answer_text, later_ages, misread_text, mistake_text, word_for, word_text};
 
 use calls::answers::{Answer, Call};
 use script::line::Mistake;

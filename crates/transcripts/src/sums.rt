@@ -1,6 +1,6 @@
 // Sums of 32 bits over bytes: the Fowler-Noll-Vo sum that takes a byte in before it multiplies.
 ghost use Rattle.std.specs.Prelude.{◌≡◌, Some};
-ghost use Rattle.transcripts.specs.Sums.{eight_digits, plane_sum, sum_with_row, sum_more, sum_of, sums_text};
+ghost use Rattle.transcripts.specs.Sums.{eight_digits, plane_sum, sum_more, sum_of, sum_with_row, sums_text};
 
 use pictures::{Store, side_of};
 use std::fmt;

@@ -1,5 +1,5 @@
 use Rattle.pictures.specs.Formats.{format_of_number}
-use Rattle.player.proofs.Seeing.{begun_plays}
+use Rattle.player.proofs.Steps.{begun_plays}
 use Rattle.player.proofs.playing.begin.Goals as goal
 
 pub returns-in-Ok-new : goal.returns-in-Ok-new

@@ -3,8 +3,8 @@ use Rattle.calls.specs.declared.answers.Answer.TheVariants.{OutOfTurn}
 use Rattle.calls.specs.Runs.{call_of}
 use Rattle.transcripts.specs.Transcribed.{Transcribes, transcribe_answer}
 use Rattle.player.specs.Plays.{make_call}
-use Rattle.player.specs.Seen.{Plays}
-use Rattle.player.proofs.Seeing.{made_plays, missed_plays}
+use Rattle.player.specs.PlayedIn.{Plays}
+use Rattle.player.proofs.Steps.{made_plays, missed_plays}
 use Rattle.player.proofs.playing.make_call.Goals as goal
 
 pub returns-in-Some : goal.returns-in-Some

@@ -2,7 +2,7 @@ use Rattle.std.proofs.Common.{◌≡◌, Some, Ok, refl, rules}
 use Rattle.call_lines.specs.declared.line.Line.TheVariants.{Call}
 use Rattle.transcripts.specs.Answers.{misread_text}
 use Rattle.transcripts.specs.Transcribed.{with_line}
-use Rattle.player.proofs.Seeing.{plays_transcribed}
+use Rattle.player.proofs.Steps.{plays_transcribed}
 use Rattle.player.proofs.playing.play_line.Goals as goal
 
 pub returns-in-Err : goal.returns-in-Err

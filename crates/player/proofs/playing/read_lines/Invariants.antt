@@ -1,6 +1,6 @@
 use Rattle.std.proofs.Common.{◌≡◌, ◌++◌, map, vec_items}
 use Rattle.script.specs.Fields.{lines_of}
-use Rattle.call_lines.specs.Lines.{line_of, line_meant}
+use Rattle.call_lines.specs.Lines.{line_meant, line_of}
 use Rattle.player.proofs.playing.read_lines.Given as goal
 
 -- the lines read, and those left, are all

@@ -1,9 +1,9 @@
 -- What lines come to, step after step.
-use Rattle.std.proofs.Common.{◌≡◌, IsSome, Some, None, Option, Ok, refl, ap, ◌∙◌, subst, string_bytes}
+use Rattle.std.proofs.Common.{◌≡◌, IsSome, Some, None, Option, Ok, refl, sym, ap, ◌∙◌, subst, string_bytes}
 use Rattle.std.specs.Option.{option_map}
 use Rattle.calls.specs.Runs.{Calling, step}
 use Rattle.transcripts.specs.declared.transcript.Transcript.{Transcript}
-use Rattle.transcripts.specs.Transcribed.{Transcribes, Transcribed, transcribe_done, transcribed_in}
+use Rattle.transcripts.specs.Transcribed.{Transcribed, Transcribes, transcribe_done, transcribed_in}
 use Rattle.reels_in_memory.specs.declared.reel_in_memory.Choices.{Choices}
 use Rattle.reels_in_memory.specs.declared.reel_in_memory.ReelInMemory.{ReelInMemory}
 use Rattle.reels_in_memory.specs.Steps.{setting_in, state_in}
@@ -14,24 +14,24 @@ use Rattle.reel.specs.declared.reels.Reel.{Reel}
 use Rattle.replay.specs.declared.Stage.TheVariants.{Resting}
 use Rattle.replay.specs.Stages.{setting_at, state_of}
 use Rattle.transcripts.specs.declared.answers.Word.TheVariants as word
+use Rattle.transcripts.proofs.Options.{mapped, some_in, some_out}
 use Rattle.transcripts.proofs.Transcribing.{transcribes_then}
 use Rattle.reels_in_memory.specs.Memories.{blank, held_by}
 use Rattle.transform.specs.Kinds.{meaning_of}
 use Rattle.player.specs.Plays.{Played, Playing, begun, leaving, make_call, transcribing}
-use Rattle.player.specs.Seen.{Plays, playing_in, seen}
+use Rattle.player.specs.PlayedIn.{Plays, played_in, playing_in}
 
 abbrev pub view : Option ReelInMemory → Choices → Transcribed → Played
 view reel choices t = record { store = choices.store; transform = choices.transform; reel = playing_in reel; transcribed = t }
-
-over : {X Y : Type 0} (f : Y → Y) (g : X → X) (v v' : X → Y) (o : Option X) → ((t : X) → v' (g t) ≡ f (v t)) → option_map v' (option_map g o) ≡ option_map f (option_map v o)
-over f g v v' None e = refl
-over f g v v' (Some x) e = ap Some (e x)
 
 -- what is transcribed, and reel and choices where memory sufficed
 pub plays_from : (f : Played → Played) (g : Transcribed → Transcribed) (reel : Option ReelInMemory) (choices : Choices) (old : Transcript) (reel' : Option ReelInMemory) (choices' : Choices) (new : Transcript)
     → Transcribes g old new → (IsSome new.text → (t : Transcribed) → view reel' choices' (g t) ≡ f (view reel choices t)) → Plays f reel choices old reel' choices' new
 plays_from f g reel choices old reel' choices' new p e =
-    record { played = λ some. ap (option_map (view reel' choices')) (p.transcribed some) ∙ over f g (view reel choices) (view reel' choices') (transcribed_in old) (e some) }
+    record {
+      played = λ some. ap (option_map (view reel' choices')) (p.transcribed some) ∙ mapped g (view reel' choices') (λ t. f (view reel choices t)) (transcribed_in old) (e some)
+          ∙ sym (mapped (view reel choices) f (λ t. f (view reel choices t)) (transcribed_in old) (λ t. refl));
+    }
 
 -- only the text changes
 pub plays_transcribed : (g : Transcribed → Transcribed) (reel : Option ReelInMemory) (choices : Choices) (old new : Transcript) → Transcribes g old new → Plays (transcribing g) reel choices old reel choices new
@@ -47,27 +47,10 @@ made_plays c reel reel' choices old new s w p =
     plays_from (make_call c) (transcribe_call (setting_in reel) (state_in reel) c) (Some reel) choices old (Some reel') choices new p
     (λ some t. ap (λ (r : Playing). record { store = choices.store; transform = choices.transform; reel = Some r; transcribed = transcribe_call (setting_in reel) (state_in reel) c t }) (λ i. record { setting = w i; state = s i }))
 
-played_as : (f g : Played → Played) (o : Option Played) → ((p : Played) → f p ≡ g p) → option_map f o ≡ option_map g o
-played_as f g None e = refl
-played_as f g (Some p) e = ap Some (e p)
-
--- the same, said in another way
-pub plays_as : (f g : Played → Played) (reel : Option ReelInMemory) (choices : Choices) (old : Transcript) (reel' : Option ReelInMemory) (choices' : Choices) (new : Transcript) → ((p : Played) → f p ≡ g p)
-    → Plays f reel choices old reel' choices' new → Plays g reel choices old reel' choices' new
-plays_as f g reel choices old reel' choices' new e p = record { played = λ some. p.played some ∙ played_as f g (seen reel choices old) e }
-
-some_in : {X Y : Type 0} (v : X → Y) (o : Option X) → IsSome o → IsSome (option_map v o)
-some_in v None some = some
-some_in v (Some x) some = refl
-
-some_out : {X Y : Type 0} (v : X → Y) (o : Option X) → IsSome (option_map v o) → IsSome o
-some_out v None some = some
-some_out v (Some x) some = refl
-
 -- there was a text before
 pub plays_had : (f : Played → Played) (reel : Option ReelInMemory) (choices : Choices) (old : Transcript) (reel' : Option ReelInMemory) (choices' : Choices) (new : Transcript) → Plays f reel choices old reel' choices' new → IsSome new.text → IsSome old.text
 plays_had f reel choices old reel' choices' new p some =
-    some_out _ old.text (some_out (view reel choices) (transcribed_in old) (some_out f (seen reel choices old)
+    some_out _ old.text (some_out (view reel choices) (transcribed_in old) (some_out f (played_in reel choices old)
     (subst IsSome (p.played some) (some_in (view reel' choices') (transcribed_in new) (some_in (λ s. record { text = string_bytes s; calls = new.calls; refused = new.refused }) new.text some)))))
 
 -- a new reel begins
@@ -85,15 +68,11 @@ begun_plays (Some format) resting reel next choices x y z e s k h p q =
 
 -- What is left to play, rest, is what is left of all that was to be played from a start.
 pub record Left (all : Played → Played) (reel₀ : Option ReelInMemory) (choices₀ : Choices) (old : Transcript) (rest : Played → Played) (reel : Option ReelInMemory) (choices : Choices) (now : Transcript) : Type 0 where
-  pub left : IsSome now.text → option_map rest (seen reel choices now) ≡ option_map all (seen reel₀ choices₀ old)
-
-mapped : (f g h : Played → Played) (o : Option Played) → ((p : Played) → g (f p) ≡ h p) → option_map g (option_map f o) ≡ option_map h o
-mapped f g h None e = refl
-mapped f g h (Some p) e = ap Some (e p)
+  pub left : IsSome now.text → option_map rest (played_in reel choices now) ≡ option_map all (played_in reel₀ choices₀ old)
 
 module _ (all : Played → Played) (reel₀ : Option ReelInMemory) (choices₀ : Choices) (old : Transcript) where
   pub left_more : (rest f rest' : Played → Played) (reel : Option ReelInMemory) (choices : Choices) (now : Transcript) (reel' : Option ReelInMemory) (choices' : Choices) (new : Transcript)
       → Left all reel₀ choices₀ old rest reel choices now → Plays f reel choices now reel' choices' new → ((p : Played) → rest' (f p) ≡ rest p)
       → Left all reel₀ choices₀ old rest' reel' choices' new
   left_more rest f rest' reel choices now reel' choices' new was step e =
-      record { left = λ some. ap (option_map rest') (step.played some) ∙ mapped f rest' rest (seen reel choices now) e ∙ was.left (plays_had f reel choices now reel' choices' new step some) }
+      record { left = λ some. ap (option_map rest') (step.played some) ∙ mapped f rest' rest (played_in reel choices now) e ∙ was.left (plays_had f reel choices now reel' choices' new step some) }

@@ -12,9 +12,9 @@ abbrev pub playing_in : Option ReelInMemory → Option Playing
 playing_in reel = option_map (λ s. record { setting = setting_in s; state = state_in s }) reel
 
 -- where memory sufficed so far
-abbrev pub seen : Option ReelInMemory → Choices → Transcript → Option Played
-seen reel choices transcript = option_map (λ t. record { store = choices.store; transform = choices.transform; reel = playing_in reel; transcribed = t }) (transcribed_in transcript)
+abbrev pub played_in : Option ReelInMemory → Choices → Transcript → Option Played
+played_in reel choices transcript = option_map (λ t. record { store = choices.store; transform = choices.transform; reel = playing_in reel; transcribed = t }) (transcribed_in transcript)
 
 -- where memory sufficed, what is come to is what f makes of what there was
 pub record Plays (f : Played → Played) (reel : Option ReelInMemory) (choices : Choices) (old : Transcript) (reel' : Option ReelInMemory) (choices' : Choices) (new : Transcript) : Type 0 where
-  pub played : IsSome new.text → seen reel' choices' new ≡ option_map f (seen reel choices old)
+  pub played : IsSome new.text → played_in reel' choices' new ≡ option_map f (played_in reel choices old)
