@@ -6,7 +6,7 @@ use Rattle.std.proofs.lemmas.List.FromFn.{length-map-range_with_len, map-range_w
 use borrow.Rule.Slice.PartMut.{mid_len, mid_of, put_mid}
 use Rattle.std.specs.List.{range_with_len}
 use Rattle.pictures.specs.Pictures.{Picture}
-use Rattle.reels_in_memory.specs.Copies.{row_of, rows_of}
+use Rattle.reels_in_memory.specs.Copies.{row_samples, rows_samples}
 
 module _ (f : ℕ → ℕ) where
   -- one sample more is copied
@@ -23,37 +23,37 @@ module _ (f : ℕ → ℕ) where
       s ∙ ap (λ m. map f (range_with_len 0 m)) (sym k)
 
 module _ (f : Picture) (p w : ℕ) where
-  pub rows_length : (k : ℕ) → length (rows_of f p w k) ≡ w * k
-  unfolding rows_of
+  pub rows_length : (k : ℕ) → length (rows_samples f p w k) ≡ w * k
+  unfolding rows_samples
   rows_length zero = sym (mul-zero w)
   rows_length (suc k) =
-      length-append (rows_of f p w k) (row_of f p w k)
-      ∙ ap (λ n. n + length (row_of f p w k)) (rows_length k)
+      length-append (rows_samples f p w k) (row_samples f p w k)
+      ∙ ap (λ n. n + length (row_samples f p w k)) (rows_length k)
       ∙ ap (λ n. w * k + n) (length-map-range_with_len (λ across. f.sample p across k) 0 w)
       ∙ sym (mul-suc w k)
 
   -- none is copied yet
-  pub no_rows : (initial : List ℕ) → initial ≡ rows_of f p w 0 ++ drop (w * 0) initial
-  unfolding rows_of
+  pub no_rows : (initial : List ℕ) → initial ≡ rows_samples f p w 0 ++ drop (w * 0) initial
+  unfolding rows_samples
   no_rows initial = ap (λ n. drop n initial) (sym (mul-zero w))
 
-  module _ (k : ℕ) (initial samples row : List ℕ) (was : samples ≡ rows_of f p w k ++ drop (w * k) initial) (is : row ≡ row_of f p w k) where
+  module _ (k : ℕ) (initial samples row : List ℕ) (was : samples ≡ rows_samples f p w k ++ drop (w * k) initial) (is : row ≡ row_samples f p w k) where
     -- one row more is
-    pub row_more : (n : ℕ) → n ≡ w → put_mid (w * k) n samples row ≡ rows_of f p w (k + 1) ++ drop (w * (k + 1)) initial
-    unfolding rows_of
+    pub row_more : (n : ℕ) → n ≡ w → put_mid (w * k) n samples row ≡ rows_samples f p w (k + 1) ++ drop (w * (k + 1)) initial
+    unfolding rows_samples
     row_more n e =
         let a = w * k in
-        let front : take a samples ≡ rows_of f p w k = ap (take a) was ∙ take_at (rows_of f p w k) (drop a initial) a (rows_length k) in
+        let front : take a samples ≡ rows_samples f p w k = ap (take a) was ∙ take_at (rows_samples f p w k) (drop a initial) a (rows_length k) in
         let back : drop n (drop a samples) ≡ drop (w * suc k) initial =
         ap (λ xs. drop n (drop a xs)) was
-        ∙ ap (drop n) (drop_at (rows_of f p w k) (drop a initial) a (rows_length k))
+        ∙ ap (drop n) (drop_at (rows_samples f p w k) (drop a initial) a (rows_length k))
         ∙ drop-drop n a initial
         ∙ ap (λ m. drop m initial) (ap (λ m. a + m) e ∙ sym (mul-suc w k)) in
         rw add-one
         (ap (λ xs. xs ++ (row ++ drop n (drop a samples))) front
-        ∙ ap (λ xs. rows_of f p w k ++ (row ++ xs)) back
-        ∙ ap (λ xs. rows_of f p w k ++ (xs ++ drop (w * suc k) initial)) is
-        ∙ sym (append_assoc (rows_of f p w k) (row_of f p w k) (drop (w * suc k) initial)))
+        ∙ ap (λ xs. rows_samples f p w k ++ (row ++ xs)) back
+        ∙ ap (λ xs. rows_samples f p w k ++ (xs ++ drop (w * suc k) initial)) is
+        ∙ sym (append_assoc (rows_samples f p w k) (row_samples f p w k) (drop (w * suc k) initial)))
 
 -- the part that a row is copied to is as wide as the row
 pub row_wide : (w k height : ℕ) (samples : List ℕ) → k < height → w * height ≤ length samples → length (mid_of (w * k) (w * k + w - w * k) samples) ≡ w

@@ -16,10 +16,10 @@ use Rattle.transcripts.specs.declared.sums.PictureSums.{PictureSums}
 use Rattle.transcripts.specs.declared.transcript.Transcript.{Transcript}
 use Rattle.transcripts.specs.Answers.{ages_text, answer_text, word_for}
 use Rattle.transcripts.specs.Sums.{sums_text}
-use Rattle.transcripts.specs.Transcribed.{Transcribes, Transcribed, transcribe_answer, with_line}
+use Rattle.transcripts.specs.Transcribed.{Transcribed, Transcribes, transcribe_answer, with_line}
 use Rattle.transcripts.proofs.Transcribing.{transcribes_as, transcribes_then}
 use Rattle.reels_in_memory.specs.Memories.{sums_of}
-use Rattle.reels_in_memory.specs.Transcriptions.{transcribe_reply, transcribe_leaving, transcribe_rows, with_sums}
+use Rattle.reels_in_memory.specs.Transcriptions.{transcribe_leaving, transcribe_reply, transcribe_rows, with_sums}
 
 -- a closing is transcribed with the sums of what is held
 pub closed_transcribed : (c : Calling) (a : Answer) (marks : ℕ) (h : Held) (sums : PictureSums) (word : Word) (x y z : Transcript)

@@ -11,7 +11,7 @@ use Rattle.calls.specs.declared.answers.Call.TheVariants.{Age as asking_age, Clo
 use Rattle.transcripts.specs.declared.answers.Word.TheVariants as word
 use Rattle.transcripts.specs.Answers.{ages_text, answer_text, word_for}
 use Rattle.transcripts.specs.Sums.{sums_text}
-use Rattle.transcripts.specs.Transcribed.{Transcribed, transcribe_done, transcribe_answer, with_line}
+use Rattle.transcripts.specs.Transcribed.{Transcribed, transcribe_answer, transcribe_done, with_line}
 use Rattle.reels_in_memory.specs.Memories.{sums_of}
 
 -- a closed picture is transcribed by its sums
@@ -40,6 +40,10 @@ abbrev pub transcribe_rows : ℕ → List ℕ → ℕ → Transcribed → Transc
 transcribe_rows columns ages zero t = t
 transcribe_rows columns ages (suc n) t = with_line (ages_text (take columns (drop (n * columns) ages))) (transcribe_rows columns ages n t)
 
+-- all rows of a picture
+abbrev pub transcribe_all_rows : Format → List ℕ → Transcribed → Transcribed
+transcribe_all_rows format ages = transcribe_rows (columns_of format) ages (rows_of format)
+
 -- what the question after an age is answered
 abbrev pub answer_of_age : Result ℕ PictureFault → Answer
 answer_of_age (Ok age) = Age age
@@ -48,7 +52,7 @@ answer_of_age (Err f) = Refused f
 -- all ages of the finished picture, where the question after the first of them is answered
 abbrev pub transcribe_table : Answer → Format → List ℕ → Transcribed → Transcribed
 transcribe_table (Refused f) format ages t = transcribe_answer word.Ages (Refused f) t
-transcribe_table _ format ages t = transcribe_rows (columns_of format) ages (rows_of format) (transcribe_done word.Ages t)
+transcribe_table _ format ages t = transcribe_all_rows format ages (transcribe_done word.Ages t)
 
 abbrev pub transcribe_ages : Setting → State → Transcribed → Transcribed
 transcribe_ages w R t = transcribe_table (reply w R (asking_age 0 0)) w.format R.contents.held.finished_ages t

@@ -1,6 +1,5 @@
 // The calls of a reel together with its memory.
 ghost use Rattle.std.specs.Prelude.{◌≡◌, length, IfOk};
-ghost use Rattle.pictures.specs.Formats.{columns_of, rows_of};
 ghost use Rattle.calls.specs.Runs.{call_of, reply};
 ghost use Rattle.calls.specs.declared.answers.Call.TheVariants.{Age as asking_age};
 ghost use Rattle.replay.specs.declared.Stage.TheVariants.{Resting};
@@ -9,7 +8,7 @@ ghost use Rattle.transcripts.specs.Transcribed.{Transcribes};
 ghost use Rattle.reels_in_memory.specs.Copies.{laid_over, plane_samples, plane_size};
 ghost use Rattle.reels_in_memory.specs.Memories.{blank, held_by, store_in};
 ghost use Rattle.reels_in_memory.specs.Steps.{Turned, setting_in, state_in};
-ghost use Rattle.reels_in_memory.specs.Transcriptions.{transcribe_ages, transcribe_reply, transcribe_call, transcribe_leaving, transcribe_rows, answer_of_age};
+ghost use Rattle.reels_in_memory.specs.Transcriptions.{answer_of_age, transcribe_ages, transcribe_all_rows, transcribe_call, transcribe_leaving, transcribe_reply};
 
 use crate::copies::copy_table;
 use crate::memories::StoredMemory;
@@ -111,7 +110,7 @@ impl ReelInMemory {
     fn transcribe_rows(&self, transcript: &mut Transcript)
         ensures calls { transcript.new.calls ≡ transcript.old.calls }
         ensures refused { transcript.new.refused ≡ transcript.old.refused }
-        ensures transcribed { Transcribes (transcribe_rows (columns_of (setting_in self.now).format) (held_by self.now.memory).finished_ages (rows_of (setting_in self.now).format)) transcript.old transcript.new }
+        ensures transcribed { Transcribes (transcribe_all_rows (setting_in self.now).format (held_by self.now.memory).finished_ages) transcript.old transcript.new }
     {
         let format = self.stage.reel().format();
         let columns = format.columns() as usize;

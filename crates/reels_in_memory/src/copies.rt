@@ -1,12 +1,12 @@
 // Copies of what a memory holds, for callers that want a plane or a table whole.
 ghost use Rattle.std.specs.Prelude.{◌≡◌, ◌*◌, ◌++◌, ◌≤◌, length, drop};
-ghost use Rattle.reels_in_memory.specs.Copies.{laid_over, plane_samples, plane_size, row_of, rows_of};
+ghost use Rattle.reels_in_memory.specs.Copies.{laid_over, plane_samples, plane_size, row_samples, rows_samples};
 
 use pictures::{Store, side_of};
 
 // Copies the first samples of a row of a plane, as many as there is room for.
 fn copy_row<S: Store>(store: &S, plane: u8, down: usize, row: &mut [u8])
-    ensures { row.new ≡ row_of (S.picture store.now) plane (length row.old) down }
+    ensures { row.new ≡ row_samples (S.picture store.now) plane (length row.old) down }
 {
     for (across, sample) in row.iter_mut().enumerate() {
         *sample = store.sample(plane, across, down);
@@ -16,7 +16,7 @@ fn copy_row<S: Store>(store: &S, plane: u8, down: usize, row: &mut [u8])
 // Copies the first rows of a plane, each so wide, one after the other.
 fn copy_rows<S: Store>(store: &S, plane: u8, width: usize, height: usize, samples: &mut [u8])
     requires { width * height ≤ length samples.old }
-    ensures { samples.new ≡ rows_of (S.picture store.now) plane width height ++ drop (width * height) samples.old }
+    ensures { samples.new ≡ rows_samples (S.picture store.now) plane width height ++ drop (width * height) samples.old }
 {
     for down in 0..height {
         let start = width * down;
