@@ -1,5 +1,5 @@
 // What a line of a script says, or what is wrong with it.
-ghost use Rattle.std.specs.Prelude.{◌≡◌, ℕ, IfOk, vec_items, codes};
+ghost use Rattle.std.specs.Prelude.{◌≡◌, ℕ, IfOk};
 ghost use Rattle.std.specs.Option.{ok_or};
 ghost use Rattle.script.specs.Lines.{Says, ended, result_map};
 ghost use Rattle.script.specs.declared.line.Mistake.TheVariants as mistake;
@@ -74,7 +74,7 @@ fn numbers<const N: usize>(fields: &[u8]) -> Result<[u32; N], Mistake>
     Ok(numbers)
 }
 
-// The fields after `store`. (One function for this and the next would be generic over the choice, and say its result by the bound's relation alone.)
+// The fields after `store`.
 fn store_line(fields: &[u8]) -> Result<Line, Mistake>
     ensures { result_map meant result ≡ store_line_of fields.now }
 {

@@ -246,20 +246,20 @@ module _ (w : Setting) where
   shown_ages (control n f s) M b h layout e =
       let g : ClosedAges format (Some layout) M b = subst (λ x. ClosedAges format x M b) e h.0 in g
 
-  told_age_lem : (f : Option ℕ) (M : Contents) (b : Book) → ClosedAges format f M b → (c r a : ℕ)
+  asked_age : (f : Option ℕ) (M : Contents) (b : Book) → ClosedAges format f M b → (c r a : ℕ)
       → (v : Result (Unit {0}) PictureFault) → judge_age w.ages_fit format f c r ≡ v → answer_or_refusal v (Age (age_at format M.held.finished_ages c r)) ≡ Age a
       → a ≡ age_after (since c r b.closed_ones)
-  told_age_lem f M b h c r a (Err q) e d = absurd (let z : ◌≡◌ {A = ℕ} 0 1 = cc in omega arith)
-  told_age_lem None M b h c r a (Ok u) e d = absurd (false≢true (age_passed w.ages_fit format None c r u e).0)
-  told_age_lem (Some layout) M b h c r a (Ok u) e d =
+  asked_age f M b h c r a (Err q) e d = absurd (let z : ◌≡◌ {A = ℕ} 0 1 = cc in omega arith)
+  asked_age None M b h c r a (Ok u) e d = absurd (false≢true (age_passed w.ages_fit format None c r u e).0)
+  asked_age (Some layout) M b h c r a (Ok u) e d =
       let i = (age_passed w.ages_fit format (Some layout) c r u e).1 in
       let s : age_at format M.held.finished_ages c r ≡ a = cc in
       sym s ∙ h c r i
 
-  told_ages : (C : Control) (M : Contents) (b : Book) → Counted format C M b → (c r a : ℕ) → answer w C M (asking_age c r) ≡ Age a
+  asked_ages : (C : Control) (M : Contents) (b : Book) → Counted format C M b → (c r a : ℕ) → answer w C M (asking_age c r) ≡ Age a
       → a ≡ age_after (since c r b.closed_ones)
-  told_ages (control n f resting) M b h c r a e = told_age_lem f M b h.0 c r a (judge_age w.ages_fit format f c r) refl e
-  told_ages (control n f (open_to k rd l)) M b h c r a e = told_age_lem f M b h.0 c r a (judge_age w.ages_fit format f c r) refl e
+  asked_ages (control n f resting) M b h c r a e = asked_age f M b h.0 c r a (judge_age w.ages_fit format f c r) refl e
+  asked_ages (control n f (open_to k rd l)) M b h c r a e = asked_age f M b h.0 c r a (judge_age w.ages_fit format f c r) refl e
 
 pub ages_counted : (format : Format) (meaning : List ℤ → ℕ → ℕ → ℤ) (h : Held) (cs : List Calling) → Aged (setting_of format meaning h) h cs
 ages_counted format meaning h cs =
@@ -269,5 +269,5 @@ ages_counted format meaning h cs =
     let t : Counted format R.state R.contents b = counted_run w (new h) empty_book cs refl (tt, tt) in
     record {
       shown = λ c r i layout e. shown_ages w R.state R.contents b t layout e c r i ∙ age_is c r b.closed_ones;
-      asked = λ c r a e. told_ages w R.state R.contents b t c r a e ∙ age_is c r b.closed_ones;
+      asked = λ c r a e. asked_ages w R.state R.contents b t c r a e ∙ age_is c r b.closed_ones;
     }

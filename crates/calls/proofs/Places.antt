@@ -1,5 +1,5 @@
 -- The places and cells of a segment, among those of the whole picture.
-use Rattle.std.proofs.Common.{◌≡◌, ℕ, suc, ◌+◌, ◌-◌, ◌*◌, ◌/◌, ◌<◌, ◌≤◌, true, cond, ◌&&◌, eqb, ltb, leb, ◌⊎◌, List, length, get_or, sym, ap, ◌∙◌, inl, inr, ⊎_elim, mul_comm, add-mul, arith}
+use Rattle.std.proofs.Common.{◌≡◌, ℕ, suc, ◌+◌, ◌-◌, ◌*◌, ◌<◌, ◌≤◌, true, cond, ◌&&◌, eqb, ltb, leb, ◌⊎◌, List, length, get_or, sym, ap, ◌∙◌, inl, inr, ⊎_elim, mul_comm, add-mul, arith}
 use Rattle.std.proofs.lemmas.Nat.{mul-le}
 use Rattle.std.proofs.lemmas.Bool.{and_from, and_parts, cases_lt, le-leb, le-ltb, lt-leb, lt-ltb, ltb-true}
 use Rattle.std.proofs.lemmas.Bool.Decides.{nat_tests}
@@ -8,7 +8,7 @@ use Rattle.pictures.specs.Formats.{columns_of, rows_of}
 use Rattle.pictures.specs.Pictures.{covers, inside, side}
 use Rattle.pictures.specs.Segments.{first_row, segment_at, segment_of_row}
 use Rattle.pictures.proofs.Rows.{segmented}
-use Rattle.pictures.proofs.Addresses.{by_side}
+use Rattle.pictures.proofs.Addresses.{before_border, from_border}
 use Rattle.rebuild.specs.Rebuilt.{count_of, first_cell, set_from}
 use Rattle.rebuild.proofs.Cells.{rows_join}
 use Rattle.calls.specs.Held.{cells_of}
@@ -21,19 +21,12 @@ pub grid_says : (format : Format) (c r : ℕ) → in_grid format c r ≡ true �
 unfolding in_grid
 grid_says format c r i = (grind (arith, nat_tests), grind (arith, nat_tests))
 
--- a place between two rows of macroblocks, by its own row
-below_row : (p y b : ℕ) → ltb y (b * side p) ≡ ltb (y / side p) b
-below_row p y b = by_side (λ s. ltb y (b * s) ≡ ltb (y / s) b) p (grind (arith, nat_tests)) (grind (arith, nat_tests))
-
-from_row : (p y a : ℕ) → leb (a * side p) y ≡ leb a (y / side p)
-from_row p y a = by_side (λ s. leb (a * s) y ≡ leb a (y / s)) p (grind (arith, nat_tests)) (grind (arith, nat_tests))
-
 pub row_below : (format : Format) (p x y : ℕ) → in_picture format p x y ≡ true → macroblock_row p y < rows_of format
 unfolding inside
 row_below format p x y i =
     let a = and_parts (ltb p 3) _ i in
     let b = and_parts (ltb x (columns_of format * side p)) (ltb y (rows_of format * side p)) a.1 in
-    ltb-true _ _ (sym (below_row p y (rows_of format)) ∙ b.1)
+    ltb-true _ _ (sym (before_border p y (rows_of format)) ∙ b.1)
 
 -- a segment's places are those whose row is the segment's
 pub covers_is : (format : Format) (l k p x y : ℕ) → in_picture format p x y ≡ true → covers (segment_at format l k) p x y ≡ eqb (segment_of_row l (macroblock_row p y)) k
@@ -41,8 +34,8 @@ unfolding covers inside
 covers_is format l k p x y i =
     let a = and_parts (ltb p 3) _ i in
     let b = and_parts (ltb x (columns_of format * side p)) (ltb y (rows_of format * side p)) a.1 in
-    let z : leb (0 * side p) x ≡ true = from_row p x 0 ∙ le-leb 0 _ (omega arith) in
-    simp (z, b.0, from_row p y (first_row format l k), below_row p y (first_row format l (suc k)))
+    let z : leb (0 * side p) x ≡ true = from_border p x 0 ∙ le-leb 0 _ (omega arith) in
+    simp (z, b.0, from_border p y (first_row format l k), before_border p y (first_row format l (suc k)))
     (sym ((segmented format l).between k (macroblock_row p y) (row_below format p x y i)))
 
 -- and the picture's, in its planes
@@ -52,9 +45,9 @@ covered_inside format l k p x y e c =
     let a = and_parts (leb (0 * side p) x) _ c in
     let b = and_parts (ltb x (columns_of format * side p)) _ a.1 in
     let d = and_parts (leb (first_row format l k * side p) y) _ b.1 in
-    let t : macroblock_row p y < first_row format l (suc k) = ltb-true _ _ (sym (below_row p y (first_row format l (suc k))) ∙ d.1) in
+    let t : macroblock_row p y < first_row format l (suc k) = ltb-true _ _ (sym (before_border p y (first_row format l (suc k))) ∙ d.1) in
     let u : macroblock_row p y < rows_of format = omega (arith, (segmented format l).in_picture k) in
-    and_from _ _ e (and_from _ _ b.0 (below_row p y (rows_of format) ∙ lt-ltb _ _ u))
+    and_from _ _ e (and_from _ _ b.0 (before_border p y (rows_of format) ∙ lt-ltb _ _ u))
 
 pub plane_says : (format : Format) (p x y : ℕ) → in_picture format p x y ≡ true → ltb p 3 ≡ true
 unfolding inside

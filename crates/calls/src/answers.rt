@@ -5,7 +5,7 @@ ghost use Rattle.calls.specs.Runs.{call_of, with_bytes};
 use crate::faults::PictureFault;
 use records::types::Delivered;
 
-// A call on a reel or on its slip. (Its numbers are the caller's, one by one: what stands for no kind, rounding or plane
+// A call on a reel or on its slip. `B` is how it has its bytes: owned in a line of a script, lent where it is made. (Its numbers are the caller's, one by one: what stands for no kind, rounding or plane
 // is refused by the call, in its turn. Kind, rounding and layout stay apart: a struct of them would be made and taken apart again at each call.)
 #[derive(Clone, Copy)]
 pub enum Call<B> {

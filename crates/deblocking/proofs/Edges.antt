@@ -7,7 +7,7 @@ use Rattle.samples.specs.Deblocking.{deblocked, strength_of}
 use Rattle.pictures.specs.Pictures.{Picture, has, inside, painted, side}
 use Rattle.pictures.specs.declared.layouts.Segment.{Segment}
 use Rattle.pictures.proofs.Addresses.{by_side}
-use Rattle.pictures.proofs.Painting.{same_picture}
+use Rattle.pictures.proofs.Painting.{same_picture, until}
 use Rattle.deblocking.specs.Edges.{turn, edge, role, first, four_from, of_role, deblocked_at, border, edges, edges_in}
 
 -- the macroblock that a coordinate lies in is one of those whose samples begin before it and end after it
@@ -123,9 +123,6 @@ pub inside_says : (s : Segment) (q u v : ℕ) → edges_in s q u v ≡ true
     → (s.left * side q ≤ u) × (u < s.right * side q) × (role v < 4) × (s.top * side q < edge v * 8) × (edge v * 8 < s.bottom * side q)
 unfolding edges_in
 inside_says s q u v e = (grind (arith, nat_tests), grind (arith, nat_tests), grind (arith, nat_tests), grind (arith, nat_tests), grind (arith, nat_tests))
-
-until : (a b n e : ℕ) → a ≤ n → b ≤ n → n ≤ max a b → (leb a e && ltb e n) ≡ (leb a e && ltb e b)
-until a b n e h i j = grind (arith, nat_tests)
 
 numbered : (p a b e : ℕ) → (leb (border p a + 1) e && ltb e (border p b)) ≡ (ltb (a * side p) (e * 8) && ltb (e * 8) (b * side p))
 numbered p a b e =

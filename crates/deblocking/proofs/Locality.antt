@@ -3,7 +3,7 @@ use Rattle.std.proofs.Common.{◌≡◌, ℕ, ◌+◌, ◌-◌, ◌*◌, ◌/◌
 use Rattle.std.proofs.lemmas.Bool.{and_from, both_ways, le-leb, lt-ltb}
 use Rattle.pictures.specs.Pictures.{Picture, covers, has, painted, side}
 use Rattle.pictures.specs.declared.layouts.Segment.{Segment}
-use Rattle.deblocking.specs.Edges.{Local, SameMarks, across_of, down_of, edge, role, first, deblocked_at, mark_at, quantizer_at, edges_in, filtered, filtered_over, turn, turn_segment}
+use Rattle.deblocking.specs.Edges.{Local, SameMarks, across_of, down_of, edge, role, first, deblocked_at, mark_in, quantizer_at, edges_in, filtered, filtered_over, turn, turn_segment}
 use Rattle.pictures.proofs.Addresses.{by_side}
 use Rattle.deblocking.proofs.Edges.{between, inside_says, deblocked_same, unpainted}
 
@@ -83,7 +83,7 @@ before q a n h = omega (arith, h)
 
 marked : (t : Bool) (marks marks' : List (Option ℕ)) (w : ℕ) (s : Segment) → SameMarks w s marks marks'
     → (i a : ℕ) → ((turn_segment t s).left ≤ i) × (i < (turn_segment t s).right) → ((turn_segment t s).top ≤ a) × (a < (turn_segment t s).bottom)
-    → mark_at marks w (across_of t i a) (down_of t i a) ≡ mark_at marks' w (across_of t i a) (down_of t i a)
+    → mark_in marks w (across_of t i a) (down_of t i a) ≡ mark_in marks' w (across_of t i a) (down_of t i a)
 marked true marks marks' w s same i a h m = same a i m.0 m.1 h.0 h.1
 marked false marks marks' w s same i a h m = same i a h.0 h.1 m.0 m.1
 

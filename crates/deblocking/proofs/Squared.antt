@@ -1,17 +1,13 @@
 -- An edge is filtered at eight places along it by one writing of a square of 8 by 8 that has the edge in its middle.
-use Rattle.std.proofs.Common.{◌≡◌, ℕ, zero, suc, ◌+◌, ◌-◌, ◌*◌, ◌/◌, ◌%◌, ◌<◌, ◌≤◌, Bool, true, false, cond, ◌&&◌, ltb, leb, List, get_or, Some, sym, refl, ap, ◌∙◌, arith}
+use Rattle.std.proofs.Common.{◌≡◌, ℕ, zero, suc, ◌+◌, ◌-◌, ◌*◌, ◌/◌, ◌%◌, ◌<◌, ◌≤◌, Bool, true, false, cond, ◌&&◌, List, get_or, Some, sym, refl, ap, ◌∙◌, arith}
 use Rattle.std.proofs.lemmas.Bool.Decides.{nat_tests}
 use Rattle.samples.specs.Deblocking.{deblocked, four_at, strength_of}
 use Rattle.samples.specs.declared.deblocking.FourRows.{FourRows}
 use Rattle.pictures.specs.Pictures.{Picture, Square, has, painted, painted_square, square_at}
 use Rattle.pictures.proofs.Painting.{same_picture}
 use Rattle.deblocking.specs.Edges.{across_of, down_of, edges, first, four_from, of_role, deblocked_at, turn}
-use Rattle.deblocking.specs.Squares.{four_across, kept_at}
+use Rattle.deblocking.specs.Squares.{MiddleSet, four_across, kept_at, next_to}
 use Rattle.deblocking.proofs.Edges.{deblocked_tap, tap, turned_inside}
-
--- which of the square's places are next to the edge
-abbrev next_to : ℕ → Bool
-next_to j = leb 2 j && ltb j 6
 
 -- the square's first place over the edge
 abbrev corner : ℕ → ℕ
@@ -141,7 +137,7 @@ module _ (quantizer : ℕ) (t : Bool) (f : Picture) (p along n : ℕ) (values : 
           λ k. record { a = a k; b = at 1 (omega arith) k; c = at 2 (omega arith) k; d = at 3 (omega arith) k }
 
   pub square_deblocked : (f₁ : Picture) (changed : List ℕ)
-      → ((i j : ℕ) → i < 8 → j < 8 → get_or changed (kept_at t i j) 0 ≡ cond (next_to j) (of_role (j - 2) (four_at new i)) (get_or values (kept_at t i j) 0))
+      → MiddleSet t new values changed
       → f₁ ≡ painted_square f p (across_of t along (corner n)) (down_of t along (corner n)) changed
       → turn t f₁ ≡ painted (edges p along (along + 8) n (n + 1)) (deblocked_at (λ _ _ _. Some quantizer) (turn t f).sample) (turn t f)
   square_deblocked f₁ changed set wrote =

@@ -60,14 +60,14 @@ deblocked_at k f q u v =
     where_marked (k q u (edge v)) (f q u v) (λ quantizer. of_role (role v) (deblocked (strength_of quantizer) (four_from f q u (first (edge v)))))
 
 -- the mark of a macroblock, in a table by rows of so many columns: its quantizer, or absence
-abbrev pub mark_at : List (Option ℕ) → ℕ → ℕ → ℕ → Option ℕ
-mark_at marks columns column row = slice_index_or marks (row * columns + column) None
+abbrev pub mark_in : List (Option ℕ) → ℕ → ℕ → ℕ → Option ℕ
+mark_in marks columns column row = slice_index_or marks (row * columns + column) None
 
 -- the mark that edge n is filtered by between two macroblocks of this number along it: that of the one after the edge, else of the one before
 abbrev pub edge_mark : List (Option ℕ) → ℕ → Bool → ℕ → ℕ → ℕ → Option ℕ
 edge_mark marks columns turned side along n =
-    option_or (mark_at marks columns (across_of turned along (n * 8 / side)) (down_of turned along (n * 8 / side)))
-    (mark_at marks columns (across_of turned along ((n * 8 - 1) / side)) (down_of turned along ((n * 8 - 1) / side)))
+    option_or (mark_in marks columns (across_of turned along (n * 8 / side)) (down_of turned along (n * 8 / side)))
+    (mark_in marks columns (across_of turned along ((n * 8 - 1) / side)) (down_of turned along ((n * 8 - 1) / side)))
 
 -- the quantizer by which edge n of plane q is filtered at u along it, if any
 abbrev pub quantizer_at : List (Option ℕ) → ℕ → Bool → ℕ → ℕ → ℕ → Option ℕ
@@ -90,7 +90,7 @@ edges_in s q u v =
 abbrev pub edge_along : ℕ → ℕ → ℕ → ℕ → ℕ → ℕ → ℕ → Bool
 edge_along p n left right = edges p (left * side p) (right * side p) n (n + 1)
 
--- the picture after is the one before with these places at the edges of a direction deblocked, each by its quantizer; places and quantizers are told by along
+-- the picture after is the one before with these places at the edges of a direction deblocked, each by its quantizer; places and quantizers are given by along
 -- and over the edges
 abbrev pub FilteredAt : Direction → (ℕ → ℕ → ℕ → Bool) → (ℕ → ℕ → ℕ → Option ℕ) → Picture → Picture → Type 0
 FilteredAt direction places quantizers before after =
@@ -112,7 +112,7 @@ filtered marks s f = filtered_over true marks s (filtered_over false marks s f)
 -- two tables have the same marks in a segment's cells, and two pictures the same samples at its places
 abbrev pub SameMarks : ℕ → Segment → List (Option ℕ) → List (Option ℕ) → Type 0
 SameMarks columns s marks marks' =
-    (column row : ℕ) → s.left ≤ column → column < s.right → s.top ≤ row → row < s.bottom → mark_at marks columns column row ≡ mark_at marks' columns column row
+    (column row : ℕ) → s.left ≤ column → column < s.right → s.top ≤ row → row < s.bottom → mark_in marks columns column row ≡ mark_in marks' columns column row
 
 abbrev pub SameSamples : Segment → Picture → Picture → Type 0
 SameSamples s f g = (q u v : ℕ) → covers s q u v ≡ true → f.sample q u v ≡ g.sample q u v

@@ -4,7 +4,7 @@
 
 ghost use Rattle.std.specs.Prelude.{◌≡◌, ◌+◌, ◌*◌, ◌/◌, ◌≤◌, ◌&&◌, max, Some, ◌==◌};
 ghost use Rattle.pictures.specs.Pictures.{side};
-ghost use Rattle.deblocking.specs.Edges.{FilteredAt, FilteredByMarks, Local, across_of, border, down_of, edge_along, edge_mark, edges, edges_in, filtered, filtered_over, is_vertical, mark_at, turn_segment};
+ghost use Rattle.deblocking.specs.Edges.{FilteredAt, FilteredByMarks, Local, across_of, border, down_of, edge_along, edge_mark, edges, edges_in, filtered, filtered_over, is_vertical, mark_in, turn_segment};
 
 mod squares;
 
@@ -61,7 +61,7 @@ impl Marks<'_> {
     fn at(self, across: usize, down: usize) -> Option<u8>
         requires across { across ≤ 2000000 }
         requires down { down ≤ 2000000 }
-        ensures { result ≡ mark_at self.entry.cells.now self.entry.columns across down }
+        ensures { result ≡ mark_in self.entry.cells.now self.entry.columns across down }
     {
         tables::read(self.cells, down * self.columns as usize + across).flatten()
     }
@@ -81,7 +81,7 @@ impl Edge {
     // The mark of the macroblock of this number along the edge that a coordinate over it lies in.
     fn mark_at(self, marks: Marks, along: u16, over: usize) -> Option<u8>
         requires { over ≤ 2000000 }
-        ensures { let t = is_vertical self.direction in result ≡ mark_at marks.entry.cells.now marks.entry.columns (across_of t along (over / side self.plane)) (down_of t along (over / side self.plane)) }
+        ensures { let t = is_vertical self.direction in result ≡ mark_in marks.entry.cells.now marks.entry.columns (across_of t along (over / side self.plane)) (down_of t along (over / side self.plane)) }
     {
         let side = side_of(self.plane);
         let (across, down) = self.direction.place(along as usize, over / side);

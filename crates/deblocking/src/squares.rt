@@ -1,5 +1,5 @@
 // Squares of 8 by 8 samples, by rows, that have an edge in their middle: of what lies across it the four samples next to it.
-ghost use Rattle.std.specs.Prelude.{◌≡◌, ℕ, ◌+◌, ◌-◌, ◌*◌, ◌/◌, ◌%◌, ◌<◌, ◌≤◌, ◌&&◌, if◌then◌else◌, nat_eq, nat_le, nat_lt, slice_index, Decides};
+ghost use Rattle.std.specs.Prelude.{◌≡◌, ℕ, ◌+◌, ◌-◌, ◌*◌, ◌<◌, if◌then◌else◌, nat_eq, slice_index, Decides};
 ghost use Rattle.samples.specs.Deblocking.{four_at};
 ghost use Rattle.deblocking.specs.Edges.{is_vertical};
 ghost use Rattle.deblocking.specs.Squares.{MiddleSet, four_across};

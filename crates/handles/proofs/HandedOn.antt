@@ -108,9 +108,9 @@ module _ {M : Type 1} (𝓤 : Ura M) (𝓛 : Logic 𝓤) (𝓜 : Model 𝓤 𝓛
       suffices ! (Run (w ∷ [])) (subst (λ (us : List Val). ent 𝓤 (Run (w ∷ [])) (Run us)) (sym (λ i. ws i ++ [])) (id⊢ 𝓤 (Run (w ∷ [])))) $
       fjoin ! $ by ! (walk d b o h fits Post lands)))
 
-  pub moved : (Q : Pointing R) (k : Callee) → Closed 𝓤 𝓛.H 𝓣.C 𝓣.Λ k (moves P.name Q.name)
+  pub repacked : (Q : Pointing R) (k : Callee) → Closed 𝓤 𝓛.H 𝓣.C 𝓣.Λ k (moves P.name Q.name)
       → Meets 𝓛 (one_to_one P.row Q.row).signature (𝓣.C k) (closing 𝓛 (one_to_one P.row Q.row) (saying 𝓛 P.row Q.row (λ d q. (Q.boxed q).value ≡ (P.boxed d).value)))
-  moved Q k closed = handed_on Q.row (λ d q. (Q.boxed q).value ≡ (P.boxed d).value) k (moves P.name Q.name) closed (λ d b o h fits Post lands.
+  repacked Q k closed = handed_on Q.row (λ d q. (Q.boxed q).value ≡ (P.boxed d).value) k (moves P.name Q.name) closed (λ d b o h fits Post lands.
       let w : Val = two_words (vptr b o) h in let typed = raw_box_good R Z heap_laws.the_row_laws ghosts b o h fits in let v = P.boxed d in
       let x : (Boxed R).Denot = record { at = block_ptr b o; alloc = v.alloc; value = v.value } in
       qed 𝓛 (‵ (parts P d b o h) ∷ []) ∵ enter ! 𝓣.C 𝓣.Λ (moves P.name Q.name) (w ∷ []) Post $ alloc_all ! (λ l. pass_all ! refl (typed, tt) $

@@ -1,6 +1,6 @@
 -- What each store needs: that its places have addresses of their own in memory, and that one cell is written.
 use Rattle.std.proofs.Common.{◌≡◌, ℕ, ◌+◌, ◌-◌, ◌*◌, ◌/◌, ◌%◌, ◌<◌, ◌≤◌, Bool, true, false, cond, ◌&&◌, eqb, ltb, leb, ◌⊎◌, sym, refl, ap, ◌∙◌, inl, inr, add-zero, arith}
-use Rattle.std.proofs.lemmas.Bool.{both_ways, cases_lt, le-leb, lt-leb, lt-ltb, le-ltb}
+use Rattle.std.proofs.lemmas.Bool.{and_right, both_ways, cases_lt, le-leb, lt-leb, lt-ltb, le-ltb}
 use Rattle.std.proofs.lemmas.Bool.Decides.{nat_tests}
 use Rattle.std.proofs.lemmas.Nat.{div-mul-add, mod-mul-add}
 use Rattle.pictures.specs.Pictures.{Picture, side, inside, has, here, span, painted, written, seen}
@@ -13,6 +13,13 @@ by_side P p a b = at (eqb p 0)
     at : (t : Bool) → P (cond t 16 8)
     at true = a
     at false = b
+
+-- whether a coordinate lies before a macroblock's border, or from it on, by its own macroblock
+pub before_border : (p u b : ℕ) → ltb u (b * side p) ≡ ltb (u / side p) b
+before_border p u b = by_side (λ s. ltb u (b * s) ≡ ltb (u / s) b) p (grind (arith, nat_tests)) (grind (arith, nat_tests))
+
+pub from_border : (p u a : ℕ) → leb (a * side p) u ≡ leb a (u / side p)
+from_border p u a = by_side (λ s. leb (a * s) u ≡ leb a (u / s)) p (grind (arith, nat_tests)) (grind (arith, nat_tests))
 
 -- what a place inside says of its numbers
 pub record Within (columns rows p x y : ℕ) : Type 0 where
@@ -57,6 +64,14 @@ pub of_span : (p y left right q u v : ℕ) → span p y left right q u v ≡ tru
 unfolding span
 of_span p y left right q u v e = (grind (arith, nat_tests), grind (arith, nat_tests), grind (arith, nat_tests), grind (arith, nat_tests))
 
+-- a place of a row's part whose samples are laid one after the other, by the address of the part's first
+pub address_along : (address : ℕ → ℕ → ℕ → ℕ) (p x y n q u v : ℕ) → span p y x (x + n) q u v ≡ true → ((d : ℕ) → d < n → address p (x + d) y ≡ address p x y + d)
+    → address q u v ≡ address p x y + (u - x)
+address_along address p x y n q u v e one_by_one =
+    let t = of_span p y x (x + n) q u v e in
+    let back : x + (u - x) ≡ u = omega (arith, t.2) in
+    ap (λ m. address m u v) (sym t.0) ∙ ap (λ m. address p u m) (sym t.1) ∙ ap (λ m. address p m y) (sym back) ∙ one_by_one (u - x) (omega (arith, t.2, t.3))
+
 one_place : (p x y q u v : ℕ) → span p y x (x + 1) q u v ≡ here p x y q u v
 unfolding span here
 one_place p x y q u v = grind (arith, nat_tests)
@@ -87,12 +102,9 @@ module _ (columns rows : ℕ) (address : ℕ → ℕ → ℕ → ℕ) (apart : A
           → (leb (address p x y) (address q u v) && ltb (address q u v) (address p x y + n)) ≡ span p y x (x + n) q u v
       by true e lo hi =
           let t = of_span p y x (x + n) q u v e in
-          let back : x + (u - x) ≡ u = omega (arith, t.2) in
-          let small : u - x < n = omega (arith, t.2, t.3) in
-          let same : address q u v ≡ address p x y + (u - x) =
-          ap (λ m. address m u v) (sym t.0) ∙ ap (λ m. address p u m) (sym t.1) ∙ ap (λ m. address p m y) (sym back) ∙ run.one_by_one (u - x) small in
-          let a : address p x y ≤ address q u v = omega arith in
-          let b : address q u v < address p x y + n = omega arith in
+          let same = address_along address p x y n q u v e run.one_by_one in
+          let a : address p x y ≤ address q u v = omega (arith, same) in
+          let b : address q u v < address p x y + n = omega (arith, same, t.2, t.3) in
           simp (e, le-leb _ _ a, lt-ltb _ _ b)
       by false e (inl lo) hi = simp (e, lt-leb _ _ lo)
       by false e (inr lo) (inr hi) = simp (e, le-leb _ _ lo, le-ltb _ _ hi)
@@ -130,10 +142,6 @@ module _ (columns rows : ℕ) (address : ℕ → ℕ → ℕ → ℕ) (apart : A
       one_cell : (a b : ℕ) → eqb a b ≡ (leb b a && ltb a (b + 1))
       one_cell a b = grind (arith, nat_tests)
 
-and_false : (a b : Bool) → b ≡ false → (a && b) ≡ false
-and_false true b h = h
-and_false false b h = refl
-
 -- and one that writes nothing, outside, too
 pub writes_nothing : (f : Picture) (p x y value : ℕ) → has f p x y ≡ false → f ≡ written f p x y value
 writes_nothing f p x y value isout = same_picture _ _ refl refl (λ q u v. at q u v (here p x y q u v) refl)
@@ -143,4 +151,4 @@ writes_nothing f p x y value isout = same_picture _ _ refl refl (λ q u v. at q 
         let t = same_place p x y q u v h in
         let o : has f q u v ≡ false = rw (← t.0, ← t.1, ← t.2) isout in
         simp o
-    at q u v false h = simp (and_false (has f q u v) (here p x y q u v) h)
+    at q u v false h = simp (and_right (has f q u v) (here p x y q u v) h)

@@ -1,9 +1,9 @@
 -- A sweep paints places of a picture part by part: how what is painted grows.
-use Rattle.std.proofs.Common.{◌≡◌, ℕ, ◌+◌, ◌*◌, ◌<◌, ◌≤◌, max, Bool, true, false, ◌&&◌, ◌||◌, eqb, ltb, leb, sym, refl, ap, ◌∙◌, ⊎_elim, zero-mul, arith}
+use Rattle.std.proofs.Common.{◌≡◌, ℕ, zero, suc, ◌+◌, ◌*◌, ◌<◌, ◌≤◌, max, Bool, true, false, ◌&&◌, ◌||◌, eqb, ltb, leb, sym, refl, ap, ◌∙◌, ⊎_elim, zero-mul, arith}
 use Rattle.std.proofs.lemmas.Bool.{cases_eq, ne_eqb}
 use Rattle.std.proofs.lemmas.Bool.Decides.{nat_tests}
 use Rattle.pictures.specs.declared.layouts.Segment.{Segment}
-use Rattle.pictures.specs.Pictures.{Picture, has, inside, here, span, covers, painted, written, side}
+use Rattle.pictures.specs.Pictures.{Picture, has, inside, here, span, covers, painted, row_in, written, side}
 
 -- pictures of one size that agree at each place are one
 pub same_picture : (f g : Picture) → f.wide ≡ g.wide → f.high ≡ g.high → ((q u v : ℕ) → f.sample q u v ≡ g.sample q u v) → f ≡ g
@@ -79,7 +79,7 @@ unfolding span
 span_join p y left x z q u v h i = grind (arith, nat_tests)
 
 -- a counter that began at a has reached b, or never left a
-until : (a b n v : ℕ) → a ≤ n → b ≤ n → n ≤ max a b → (leb a v && ltb v n) ≡ (leb a v && ltb v b)
+pub until : (a b n v : ℕ) → a ≤ n → b ≤ n → n ≤ max a b → (leb a v && ltb v n) ≡ (leb a v && ltb v b)
 until a b n v h i j = grind (arith, nat_tests)
 
 span_all : (p y left right x q u v : ℕ) → left ≤ x → right ≤ x → x ≤ max left right → span p y left x q u v ≡ span p y left right q u v
@@ -123,6 +123,19 @@ unfolding block covers
 block_all s p y q u v h i j =
     ap (λ b. eqb p q && (leb (s.left * side p) u && (ltb u (s.right * side p) && b))) (until _ _ y v h i j)
     ∙ ⊎_elim (λ (e : p ≡ q). rw e refl) (λ (e : p ≡ q → ⊥). simp (ne_eqb p q e)) (cases_eq p q)
+
+-- of a rectangle's rows of macroblocks those above a row
+abbrev pub rows_above : Segment → ℕ → Segment
+rows_above s row = record s { bottom = row }
+
+pub no_rows_above : (s : Segment) (q u v : ℕ) → covers (rows_above s s.top) q u v ≡ false
+unfolding covers
+no_rows_above s q u v = grind (arith, nat_tests)
+
+pub rows_above_more : (s : Segment) (row q u v : ℕ) → s.top ≤ row → covers (rows_above s (row + 1)) q u v ≡ (covers (row_in s row) q u v || covers (rows_above s row) q u v)
+unfolding covers
+rows_above_more s row zero u v h = grind (arith, nat_tests)
+rows_above_more s row (suc q) u v h = grind (arith, nat_tests)
 
 pub planes_more : (b : Bool) (p q : ℕ) → (ltb q (p + 1) && b) ≡ ((eqb p q && b) || (ltb q p && b))
 planes_more true p q = grind (arith, nat_tests)

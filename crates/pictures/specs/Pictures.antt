@@ -46,6 +46,10 @@ span p y left right q u v = p == q && (y == v && (nat_le left u && nat_lt u righ
 unfoldable pub covers : Segment → ℕ → ℕ → ℕ → Bool
 covers s q u v = nat_le (s.left * side q) u && (nat_lt u (s.right * side q) && (nat_le (s.top * side q) v && nat_lt v (s.bottom * side q)))
 
+-- one row of a rectangle's macroblocks
+abbrev pub row_in : Segment → ℕ → Segment
+row_in s row = record s { top = row; bottom = row + 1 }
+
 -- the picture after a writing: that place, if inside, has the value, and every other place what it had
 abbrev pub written : Picture → ℕ → ℕ → ℕ → ℕ → Picture
 written f p x y value = painted (here p x y) (λ _ _ _. value) f

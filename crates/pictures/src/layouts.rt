@@ -1,5 +1,5 @@
 ghost use Rattle.std.specs.List.{count_by, range_with_len};
-ghost use Rattle.std.specs.Prelude.{◌≡◌, ℕ, nat_lt, ◌+◌, suc, ◌^◌, ◌<◌, ◌≤◌, true, false, Decides};
+ghost use Rattle.std.specs.Prelude.{◌≡◌, ℕ, nat_lt, ◌+◌, ◌^◌, ◌<◌, ◌≤◌, true, false, Decides};
 ghost use Rattle.pictures.specs.Formats.{rows_of};
 ghost use Rattle.pictures.specs.Segments.{Segmented, has_bit, rows_before, segment_at, segment_count, segment_of_row, sound};
 

@@ -1,5 +1,5 @@
 -- The lines of a script, one after the other.
-use Rattle.std.proofs.Common.{◌≡◌, ℕ, ◌+◌, ◌<◌, ◌≤◌, List, [], length, get_or, drop, map, IsSome, IfOk, Global, Some, None, Ok, Err, Option, Result, String, string_bytes, sym, refl, ap, ◌∙◌}
+use Rattle.std.proofs.Common.{◌≡◌, ℕ, ◌+◌, ◌<◌, ◌≤◌, List, [], length, get_or, drop, map, IsSome, IfOk, Global, Some, None, Ok, Err, Option, Result, String, string_bytes, sym, refl, ap, ◌∙◌, subst}
 use Rattle.std.specs.Option.{option_map}
 use Rattle.std.specs.Result.{result_ok}
 use Rattle.std.proofs.lemmas.List.{at_drop_more, drop_all}
@@ -17,6 +17,7 @@ use Rattle.reels_in_memory.specs.declared.reel_in_memory.Choices.{Choices}
 use Rattle.reels_in_memory.specs.declared.reel_in_memory.ReelInMemory.{ReelInMemory}
 use Rattle.player.specs.Plays.{Played, answers_to, at_end, done, leaving, line_played, lines_played, transcribed_of}
 use Rattle.player.specs.PlayedIn.{Plays, playing_in}
+use Rattle.transcripts.proofs.Options.{some_out}
 use Rattle.transcripts.proofs.Transcribing.{transcribes_had}
 use Rattle.player.proofs.Steps.{Left, left_more, view}
 
@@ -65,8 +66,7 @@ zero_transcribed : (s : Transcript) → option_map string_bytes s.text ≡ Some 
 zero_transcribed s t c r = rw (c, r) (from_bytes s.text t)
 
 had_some : {A B : Type 0} (o : Option (String A)) (text : String B) (line : List ℕ) → ◌≡◌ {A = Option (List ℕ)} (Some (string_bytes text)) (option_map (λ s. line_after (string_bytes s) line) o) → IsSome o
-had_some None text line e = absurd (cc)
-had_some (Some s) text line e = refl
+had_some o text line e = some_out (λ s. line_after (string_bytes s) line) o (subst IsSome e refl)
 
 done_is : {A : Type 0} (o : Option (String A)) (calls refused : ℕ) (bytes : List ℕ) (t : Transcribed) → ◌≡◌ {A = Option (List ℕ)} (Some bytes) (option_map (λ s. line_after (string_bytes s) (done_text calls refused)) o)
     → option_map (λ s. record { text = string_bytes s; calls = calls; refused = refused }) o ≡ Some t → bytes ≡ done t

@@ -20,10 +20,10 @@ use Rattle.rebuild.proofs.Cells.{cell_below}
 use Rattle.rebuild.proofs.Sixths.{agreeing}
 
 -- a coordinate that was brought inside is inside
-held_in : (low high : ℕ) (z : ℤ) → low < high → (low ≤ brought_inside low high z) × (brought_inside low high z < high)
+brought_is_inside : (low high : ℕ) (z : ℤ) → low < high → (low ≤ brought_inside low high z) × (brought_inside low high z < high)
 unfolding brought_inside
-held_in low high (pos n) h = (grind arith, grind arith)
-held_in low high (negsuc n) h = (omega arith, omega arith)
+brought_is_inside low high (pos n) h = (grind arith, grind arith)
+brought_is_inside low high (negsuc n) h = (omega arith, omega arith)
 
 times_side : (a b q : ℕ) → a < b → a * side q < b * side q
 times_side a b q = by_side (λ s. a < b → a * s < b * s) q (λ h. omega arith) (λ h. omega arith)
@@ -33,8 +33,8 @@ module _ (s : Segment) (wide : s.left < s.right) (high : s.top < s.bottom) where
   seen_inside : (q : ℕ) (x y : ℤ) → covers s q (brought_inside (s.left * side q) (s.right * side q) x) (brought_inside (s.top * side q) (s.bottom * side q) y) ≡ true
   unfolding covers
   seen_inside q x y =
-      let a = held_in (s.left * side q) (s.right * side q) x (times_side s.left s.right q wide) in
-      let b = held_in (s.top * side q) (s.bottom * side q) y (times_side s.top s.bottom q high) in
+      let a = brought_is_inside (s.left * side q) (s.right * side q) x (times_side s.left s.right q wide) in
+      let b = brought_is_inside (s.top * side q) (s.bottom * side q) y (times_side s.top s.bottom q high) in
       simp (le-leb _ _ a.0, lt-ltb _ _ a.1, le-leb _ _ b.0, lt-ltb _ _ b.1)
 
   -- in each plane by itself

@@ -1,4 +1,4 @@
--- Rectangles of macroblocks that grow: a segment row by row, and a row column by column.
+-- A row of a segment's macroblocks that grows column by column, and the samples and cells of a row.
 use Rattle.std.proofs.Common.{◌≡◌, ℕ, zero, suc, ◌+◌, ◌-◌, ◌*◌, ◌/◌, ◌<◌, ◌≤◌, true, false, ◌||◌, List, ◌∷◌, length, get_or, drop, ℤ, sym, refl, ap, ◌∙◌, add-mul, arith, get_or-drop}
 use Rattle.std.proofs.lemmas.List.{drop_more}
 use Rattle.records.specs.declared.types.Macroblock.{Macroblock}
@@ -7,15 +7,12 @@ use Rattle.motion.specs.declared.vectors.Vector.{Vector}
 use Rattle.motion.specs.Vectors.{zero_vector}
 use Rattle.std.proofs.lemmas.Bool.Decides.{nat_tests}
 use Rattle.pictures.specs.declared.layouts.Segment.{Segment}
-use Rattle.pictures.specs.Pictures.{covers, side}
+use Rattle.pictures.specs.Pictures.{covers, row_in, side}
 use Rattle.rebuild.specs.Macroblocks.{macroblock_sample, segment_of_one}
-use Rattle.rebuild.specs.Segments.{cell_at, column_at, row_in, samples_by}
+use Rattle.rebuild.specs.Segments.{cell_at, column_at, samples_by}
 use Rattle.rebuild.proofs.Cells.{macroblock_inside}
 
--- of a segment's rows those above a row, and of a row's macroblocks those left of a column
-abbrev pub rows_above : Segment → ℕ → Segment
-rows_above s row = record s { bottom = row }
-
+-- of a row's macroblocks those left of a column
 abbrev pub columns_before : Segment → ℕ → ℕ → Segment
 columns_before s row column = record { left = s.left; right = column; top = row; bottom = row + 1 }
 
@@ -23,20 +20,11 @@ pub no_columns : (s : Segment) (row q u v : ℕ) → covers (columns_before s ro
 unfolding covers
 no_columns s row q u v = grind (arith, nat_tests)
 
-pub no_rows : (s : Segment) (q u v : ℕ) → covers (rows_above s s.top) q u v ≡ false
-unfolding covers
-no_rows s q u v = grind (arith, nat_tests)
-
 pub columns_more : (s : Segment) (row column q u v : ℕ) → s.left ≤ column
     → covers (columns_before s row (column + 1)) q u v ≡ (covers (segment_of_one column row) q u v || covers (columns_before s row column) q u v)
 unfolding covers
 columns_more s row column zero u v h = grind (arith, nat_tests)
 columns_more s row column (suc q) u v h = grind (arith, nat_tests)
-
-pub rows_more : (s : Segment) (row q u v : ℕ) → s.top ≤ row → covers (rows_above s (row + 1)) q u v ≡ (covers (row_in s row) q u v || covers (rows_above s row) q u v)
-unfolding covers
-rows_more s row zero u v h = grind (arith, nat_tests)
-rows_more s row (suc q) u v h = grind (arith, nat_tests)
 
 -- a macroblock's samples, by its cell
 pub samples_by_lem : (meaning : List ℤ → ℕ → ℕ → ℤ) (s : Segment) (rounding : ℕ) (picture : ℕ → ℕ → ℕ → ℕ) (records : List Macroblock) (vectors : List Vector) (cell : ℕ → ℕ → ℕ → ℕ) (m : Macroblock) (vector : Vector) (q u v i : ℕ)

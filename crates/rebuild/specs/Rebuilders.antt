@@ -4,12 +4,12 @@ use Rattle.std.specs.Prelude.{ℕ, List, ℤ, Option}
 use Rattle.records.specs.declared.types.Macroblock.{Macroblock}
 use Rattle.samples.specs.Prediction.{rounding_of}
 use Rattle.motion.specs.declared.vectors.Vector.{Vector}
-use Rattle.pictures.specs.Pictures.{Picture, covers, painted}
+use Rattle.pictures.specs.Pictures.{Picture, covers, painted, row_in}
 use Rattle.prediction.specs.declared.window.Window.{Window}
 use Rattle.rebuild.specs.declared.rebuilder.Rebuilder.{Rebuilder}
 use Rattle.rebuild.specs.Blocks.{predicted_from, summed}
 use Rattle.rebuild.specs.Macroblocks.{coded_sample, macroblock_sample}
-use Rattle.rebuild.specs.Segments.{cell_at, column_at, row_in, samples_by}
+use Rattle.rebuild.specs.Segments.{cell_at, column_at, samples_by}
 use Rattle.rebuild.specs.Rebuilt.{rebuilt}
 
 -- the prediction at a place, by a vector

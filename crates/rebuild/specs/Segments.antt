@@ -17,10 +17,6 @@ unfoldable pub samples_by : (List ℤ → ℕ → ℕ → ℤ) → Segment → �
 samples_by meaning s rounding picture records vectors cell q u v =
     macroblock_sample meaning s rounding picture (slice_index_or records (cell q u v) Skipped) (slice_index_or vectors (cell q u v) zero_vector) q u v
 
--- one row of a segment's macroblocks
-abbrev pub row_in : Segment → ℕ → Segment
-row_in s row = record s { top = row; bottom = row + 1 }
-
--- and where the macroblock of a place stands in its row
+-- and where it stands in its row
 abbrev pub column_at : Segment → ℕ → ℕ → ℕ → ℕ
 column_at s q u v = u / side q - s.left

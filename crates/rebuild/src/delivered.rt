@@ -1,5 +1,5 @@
 // Rebuilding the segment of an accepted delivery.
-ghost use Rattle.std.specs.Prelude.{◌≡◌, ℕ, ◌+◌, ◌-◌, ◌*◌, ◌<◌, ◌≤◌, true, length, drop, is_ok, Ok};
+ghost use Rattle.std.specs.Prelude.{◌≡◌, ℕ, ◌+◌, ◌-◌, ◌*◌, ◌<◌, true, length, drop, is_ok};
 ghost use Rattle.motion.specs.Cells.{Room, ages_of, marks_of};
 ghost use Rattle.motion.specs.Vectors.{vectors_of};
 ghost use Rattle.records.specs.Again.{records_of};
@@ -60,7 +60,7 @@ impl<S: Store, T: Transform> Rebuilder<'_, '_, S, T> {
         marks: &mut [Option<u8>],
     )
         requires spans { Spans self.now.window.segment (S.picture working.old).wide }
-        requires accepted { is_ok (read kind (count_of self.now.window.segment) bytes.now) ≡ true }
+        requires readable { is_ok (read kind (count_of self.now.window.segment) bytes.now) ≡ true }
         requires room { let s = self.now.window.segment in Room (s.bottom * width_of s) finished_ages.now ages.old vectors.old marks.old }
         ensures samples { S.picture working.new ≡ rebuilt_by S.picture T.meaning self.now (delivery_records kind (count_of self.now.window.segment) bytes.now) marks.new (S.picture working.old) }
         ensures ages { let s = self.now.window.segment in ages.new ≡ set_from (first_cell s) (ages_of (delivery_records kind (count_of s) bytes.now) (drop (first_cell s) finished_ages.now)) ages.old }

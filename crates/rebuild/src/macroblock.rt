@@ -1,5 +1,5 @@
 // Rebuilding a macroblock.
-ghost use Rattle.std.specs.Prelude.{◌≡◌, ℕ, ◌+◌, ◌*◌, ◌%◌, ◌<◌, ◌≤◌, List, ℤ, pos, slice_index_or};
+ghost use Rattle.std.specs.Prelude.{◌≡◌, ℕ, ◌+◌, ◌*◌, ◌<◌, pos, slice_index_or};
 ghost use Rattle.pictures.specs.Pictures.{covers, painted};
 ghost use Rattle.rebuild.specs.Blocks.{values_of};
 ghost use Rattle.rebuild.specs.Macroblocks.{coefficients_of, component_for, residual_of, segment_of_one, source_for};

@@ -1,4 +1,4 @@
-ghost use Rattle.std.specs.Prelude.{◌≡◌, ℕ, ◌-◌, ◌^◌, ◌<◌, ◌≤◌, true, is_ok};
+ghost use Rattle.std.specs.Prelude.{◌≡◌, ℕ, ◌-◌, ◌<◌, ◌≤◌, true, is_ok};
 ghost use Rattle.records.specs.Reading.{unread_of};
 ghost use Rattle.records.specs.Deliveries.{macroblocks_from};
 

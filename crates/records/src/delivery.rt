@@ -59,7 +59,7 @@ pub fn check_delivery(
     bytes: &[u8],
 ) -> Result<Delivered, SegmentFault>
     ensures value { result ≡ answered kind macroblocks bytes.now }
-    ensures accepted { OnOk result (is_ok (read kind macroblocks bytes.now) ≡ true) }
+    ensures readable { OnOk result (is_ok (read kind macroblocks bytes.now) ≡ true) }
     ensures whole { IfOk (read kind macroblocks bytes.now) (Whole kind macroblocks) }
 {
     check_bytes(bytes)?;

@@ -17,10 +17,10 @@ use Rattle.reel.specs.declared.reels.Slip.{Slip}
 use Rattle.reel.specs.Calls.{delivery_answered, held_after, judged}
 
 -- the counts come from the questions
-granted : (bytes : List ℕ) (v : Result (List Macroblock) PictureFault) (counts : Delivered) → Ok counts ≡ delivery_answered bytes v
+counts_from : (bytes : List ℕ) (v : Result (List Macroblock) PictureFault) (counts : Delivered) → Ok counts ≡ delivery_answered bytes v
     → (records : List Macroblock) × ((v ≡ Ok records) × (counts ≡ delivered_of bytes records))
-granted bytes (Ok records) counts e = (records, (refl, cc))
-granted bytes (Err g) counts e = absurd (let z : ◌≡◌ {A = ℕ} 0 1 = cc in omega arith)
+counts_from bytes (Ok records) counts e = (records, (refl, cc))
+counts_from bytes (Err g) counts e = absurd (let z : ◌≡◌ {A = ℕ} 0 1 = cc in omega arith)
 
 module _ (slip : Slip) (held : Held) (segment : ℕ) (bytes : List ℕ) where
   pub record Granted (counts : Delivered) : Type 0 where
@@ -32,7 +32,7 @@ module _ (slip : Slip) (held : Held) (segment : ℕ) (bytes : List ℕ) where
 
   pub delivery_granted : (counts : Delivered) → Ok counts ≡ delivery_answered bytes (judged slip held segment bytes) → Granted counts
   delivery_granted counts d =
-      let g = granted bytes (judged slip held segment bytes) counts d in
+      let g = counts_from bytes (judged slip held segment bytes) counts d in
       let t = delivery_passed (fits slip.reel.format held) slip.reel.format slip.kind slip.layout slip.accepted segment bytes g.0 g.1.0 in
       let r : delivery_records slip.kind (macroblocks_in slip.reel.format slip.layout segment) bytes ≡ g.0 = delivery_records_are slip.kind _ bytes g.0 t.was_read in
       record {

@@ -1,13 +1,12 @@
 // Delivering a segment.
-ghost use Rattle.std.specs.Prelude.{◌≡◌, ℕ, ◌*◌, ◌^◌, ◌<◌, ◌≤◌, true, is_ok, vec_len, bit_or, IfErr};
+ghost use Rattle.std.specs.Prelude.{◌≡◌, ℕ, ◌*◌, ◌^◌, ◌<◌, ◌≤◌, true, is_ok, bit_or, IfErr};
 ghost use Rattle.motion.specs.Cells.{Room};
 ghost use Rattle.records.specs.Deliveries.{read};
 ghost use Rattle.pictures.specs.Segments.{has_bit};
 ghost use Rattle.rebuild.specs.Rebuilt.{Spans, count_of, delivery_records, width_of};
 ghost use Rattle.calls.specs.Effects.{segment_rebuilt};
 ghost use Rattle.calls.specs.Held.{fits};
-ghost use Rattle.calls.specs.Questions.{judge_delivery};
-ghost use Rattle.reel.specs.Calls.{delivery_answered, held_after, judged, marked, slip_after};
+ghost use Rattle.reel.specs.Calls.{delivery_answered, held_after, judged, slip_after};
 ghost use Rattle.reel.specs.Memories.{held_in};
 
 use crate::memory::Memory;
@@ -52,7 +51,7 @@ fn rebuild_in<S: Store, T: Transform>(
     requires some_rows { segment.top < segment.bottom }
     requires few_rows { segment.bottom ≤ 22 }
     requires spans { Spans segment (S.picture memory.old.working).wide }
-    requires accepted { is_ok (read kind (count_of segment) bytes.now) ≡ true }
+    requires readable { is_ok (read kind (count_of segment) bytes.now) ≡ true }
     requires room { let m = memory.old in Room (segment.bottom * width_of segment) m.finished_ages.items m.working_ages.items m.vectors.items m.marks.items }
     ensures { held_in S.picture memory.new ≡ segment_rebuilt (T.meaning transform.now) segment rounding (delivery_records kind (count_of segment) bytes.now) (held_in S.picture memory.old) }
 {

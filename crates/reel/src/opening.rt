@@ -54,7 +54,7 @@ impl Reel {
         }
     }
 
-    // Puts an opening its questions: the kind and the rounding that it is granted, or the first fault.
+    // Puts an opening its questions: the kind and the rounding that the picture is opened with, or the first fault.
     fn check_opening<S: Store>(
         &self,
         memory: &Memory<S>,

@@ -57,7 +57,7 @@ fn number_of(fault: PictureFault) -> u8 {
 }
 
 // What a question is answered: its value, or the number of the refusal.
-fn told(found: Result<u8, PictureFault>) -> Result<u8, u8> {
+fn answer_of(found: Result<u8, PictureFault>) -> Result<u8, u8> {
     found.map_err(number_of)
 }
 
@@ -144,21 +144,21 @@ fn wrong_sizes(rt: HostRuntime) -> Result<(), Fail> {
 }
 
 // The answers to both questions on an open slip, over a memory with right and one with wrong sizes; the slip is handed in at the end.
-fn told_open(
+fn answers_while_open(
     reel: Reel,
     right: &mut Memory<ByteStore>,
     wrong: &Memory<ByteStore>,
 ) -> [Result<u8, u8>; 4] {
     match reel.open(right, 1, 1, 1) {
         Ok((slip, _)) => {
-            let told = [
-                told(slip.reel().sample(&right.finished, 0, 127, 95)),
-                told(slip.reel().sample(&wrong.finished, 0, 0, 0)),
-                told(slip.reel().age(&right.finished_ages, 7, 5)),
-                told(slip.reel().age(&wrong.finished_ages, 0, 0)),
+            let answers = [
+                answer_of(slip.reel().sample(&right.finished, 0, 127, 95)),
+                answer_of(slip.reel().sample(&wrong.finished, 0, 0, 0)),
+                answer_of(slip.reel().age(&right.finished_ages, 7, 5)),
+                answer_of(slip.reel().age(&wrong.finished_ages, 0, 0)),
             ];
             match slip.close(right) {
-                Ok(_) => told,
+                Ok(_) => answers,
                 Err(_) => unreachable(),
             }
         }
@@ -174,20 +174,23 @@ fn questions_of_wrong_size(rt: HostRuntime) -> Result<(), Fail> {
     let store = memory_but(heap, Some(Part::Finished))?;
     let ages = memory_but(heap, Some(Part::FinishedAges))?;
     let (reel, _) = pass_picture(new_reel()?, &mut right);
-    assert_eq!(rt; told(reel.sample(&right.finished, 0, 127, 95)), Ok(128));
-    assert_eq!(rt; told(reel.sample(&ages.finished, 0, 127, 95)), Ok(0));
-    assert_eq!(rt; told(reel.sample(&store.finished, 0, 127, 95)), Err(2));
-    assert_eq!(rt; told(reel.age(&right.finished_ages, 7, 5)), Ok(255));
-    assert_eq!(rt; told(reel.age(&store.finished_ages, 7, 5)), Ok(0));
-    assert_eq!(rt; told(reel.age(&ages.finished_ages, 7, 5)), Err(2));
-    assert_eq!(rt; told(reel.age(&right.finished_ages, 8, 5)), Err(18));
-    assert_eq!(rt; told(reel.sample(&right.finished, 256, 0, 0)), Err(18));
+    assert_eq!(rt;
+        answer_of(reel.sample(&right.finished, 0, 127, 95)),
+        Ok(128)
+    );
+    assert_eq!(rt; answer_of(reel.sample(&ages.finished, 0, 127, 95)), Ok(0));
+    assert_eq!(rt; answer_of(reel.sample(&store.finished, 0, 127, 95)), Err(2));
+    assert_eq!(rt; answer_of(reel.age(&right.finished_ages, 7, 5)), Ok(255));
+    assert_eq!(rt; answer_of(reel.age(&store.finished_ages, 7, 5)), Ok(0));
+    assert_eq!(rt; answer_of(reel.age(&ages.finished_ages, 7, 5)), Err(2));
+    assert_eq!(rt; answer_of(reel.age(&right.finished_ages, 8, 5)), Err(18));
+    assert_eq!(rt; answer_of(reel.sample(&right.finished, 256, 0, 0)), Err(18));
     let wrong = Memory {
         finished: store.finished,
         ..ages
     };
     assert_eq!(rt;
-        told_open(reel, &mut right, &wrong),
+        answers_while_open(reel, &mut right, &wrong),
         [Ok(128), Err(2), Ok(255), Err(2)]
     );
     Ok(())

@@ -10,11 +10,11 @@ use Rattle.stores.specs.Tiles.{tiles_seen}
 use Rattle.calls.specs.Held.{Held, cells_of, fits}
 use Rattle.calls.specs.declared.answers.Answer.{Answer}
 use Rattle.calls.specs.Laws.{granted}
-use Rattle.calls.specs.Runs.{Calling, reply, step}
+use Rattle.calls.specs.Runs.{Calling}
 use Rattle.reel.specs.declared.memory.Memory.{Memory}
 use Rattle.replay.specs.declared.Stage.{Stage}
 use Rattle.reel.specs.Memories.{held_in}
-use Rattle.replay.specs.Stages.{format_of, setting_at, state_of}
+use Rattle.replay.specs.Stages.{format_of, reply_to, setting_at, state_after, state_of}
 use Rattle.call_lines.specs.declared.line.StoreKind.{StoreKind}
 use Rattle.call_lines.specs.declared.line.StoreKind.TheVariants as store
 use Rattle.transform.specs.declared.kinds.TransformKind.{TransformKind}
@@ -43,8 +43,8 @@ sums_of h = record { luma = plane_sum h.finished 0; cb = plane_sum h.finished 1;
 -- a stage, what its memory holds and an answer are those of one call; format, transform and sizes are as they were, and so is the very stage where the
 -- call is not accepted
 pub record Made (kind : TransformKind) (stage : Stage) (held : Held) (call : Calling) (stage' : Stage) (held' : Held) (a : Answer) : Type 0 where
-  pub state : state_of stage' held' ≡ step (setting_at stage (meaning_of kind) held) (state_of stage held) call
-  pub answer : a ≡ reply (setting_at stage (meaning_of kind) held) (state_of stage held) call
+  pub state : state_of stage' held' ≡ state_after (meaning_of kind) stage held call
+  pub answer : a ≡ reply_to (meaning_of kind) stage held call
   pub setting : setting_at stage' (meaning_of kind) held' ≡ setting_at stage (meaning_of kind) held
   pub stays : granted a ≡ false → stage' ≡ stage
 

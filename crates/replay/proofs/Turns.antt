@@ -8,17 +8,17 @@ use Rattle.calls.specs.declared.answers.Answer.TheVariants as answer
 use Rattle.calls.specs.declared.faults.PictureFault.{PictureFault}
 use Rattle.calls.specs.Held.{Held}
 use Rattle.calls.specs.Laws.{granted}
-use Rattle.calls.specs.Runs.{Calling, reply, step}
+use Rattle.calls.specs.Runs.{Calling}
 use Rattle.calls.specs.declared.answers.Call.TheVariants.{Deliver as delivering}
 use Rattle.reel.specs.declared.reels.Slip.{Slip}
 use Rattle.replay.specs.declared.Stage.{Stage}
 use Rattle.replay.specs.declared.Stage.TheVariants.{Open}
 use Rattle.reel.specs.Calls.{delivery_answered, held_after, judged, slip_after}
-use Rattle.replay.specs.Stages.{format_of, setting_at, spent_of, state_of, writes}
+use Rattle.replay.specs.Stages.{format_of, reply_to, spent_of, state_after, state_of, writes}
 
 pub record Turn (meaning : List ℤ → ℕ → ℕ → ℤ) (stage : Stage) (held : Held) (c : Calling) (stage' : Stage) (held' : Held) (a : Answer) : Type 0 where
-  pub state : state_of stage' held' ≡ step (setting_at stage meaning held) (state_of stage held) c
-  pub answer : a ≡ reply (setting_at stage meaning held) (state_of stage held) c
+  pub state : state_of stage' held' ≡ state_after meaning stage held c
+  pub answer : a ≡ reply_to meaning stage held c
   pub format : format_of stage' ≡ format_of stage
   pub unspent : spent_of stage ≡ false → spent_of stage' ≡ false
   pub stays : granted a ≡ false → stage' ≡ stage

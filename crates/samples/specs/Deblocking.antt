@@ -1,6 +1,6 @@
 -- The deblocking filter's rule for four samples over an edge of two blocks: a and b lie before the edge, c and d after it. Its divisions
 -- drop the fraction. Assumes nothing.
-use Rattle.std.specs.Prelude.{ℕ, ◌-◌, ◌*◌, ◌/◌, List, [], ◌∷◌, ℤ, pos, ◌+ℤ◌, ◌-ℤ◌, neg_ℤ, slice_index, unsigned_abs}
+use Rattle.std.specs.Prelude.{◌≡◌, ℕ, ◌-◌, ◌*◌, ◌/◌, List, [], ◌∷◌, ℤ, pos, ◌+ℤ◌, ◌-ℤ◌, neg_ℤ, slice_index, unsigned_abs}
 use Rattle.transform.specs.Signs.{with_sign}
 use Rattle.transform.specs.Sums.{brought}
 use Rattle.samples.specs.Clipping.{clipped}
@@ -43,6 +43,10 @@ new_d strength f = pos f.d +ℤ outer_of strength f
 abbrev pub deblocked : ℕ → Four → Four
 deblocked strength f =
     record { a = unsigned_abs (new_a strength f); b = clipped (pos f.b +ℤ inner_of strength f); c = clipped (pos f.c -ℤ inner_of strength f); d = unsigned_abs (new_d strength f) }
+
+-- what the filter gives for the outer samples is theirs as it stands: neither was below 0 or above 255
+abbrev pub Unclipped : ℕ → Four → Four → Type 0
+Unclipped strength f new = (pos new.a ≡ new_a strength f) × (pos new.d ≡ new_d strength f)
 
 -- the four samples at place i of eight along an edge
 abbrev pub four_at : FourRows → ℕ → Four

@@ -2,7 +2,7 @@
 // has their sizes and goes by which side is greater, so that all of it is unsigned.
 ghost use Rattle.std.specs.Prelude.{◌≡◌, ℕ, if◌then◌else◌, ◌<◌, ◌+◌, ◌-◌, ◌*◌, min, pos, ◌+ℤ◌, ◌-ℤ◌, unsigned_abs};
 ghost use Rattle.samples.specs.Clipping.{clipped};
-ghost use Rattle.samples.specs.Deblocking.{deblocked, four_at, inner_of, new_a, new_d, outer_of, strength_of};
+ghost use Rattle.samples.specs.Deblocking.{Unclipped, deblocked, four_at, inner_of, new_a, new_d, outer_of, strength_of};
 
 // The strength for each quantizer from 1 to 31, by eights.
 const STRENGTHS: [[u8; 8]; 4] = [
@@ -101,7 +101,7 @@ impl Four {
 // The four samples after the filter, at this strength. (Lent and not copied, since four bytes that are copied become one number, and are taken apart again.)
 fn deblock_at(strength: u8, four: &Four) -> Four
     ensures value { result ≡ deblocked strength four.now }
-    ensures unclipped { (pos result.a ≡ new_a strength four.now) × (pos result.d ≡ new_d strength four.now) }
+    ensures unclipped { Unclipped strength four.now result }
 {
     let (a, d) = four.outer_samples(strength);
     let (b, c) = four.inner_samples(strength);
@@ -119,7 +119,8 @@ pub struct FourRows {
 
 // The four rows after the filter, at each of the eight places.
 pub fn deblock_rows(quantizer: u8, rows: &FourRows) -> FourRows
-    ensures { (i : ℕ) → i < 8 → four_at result i ≡ deblocked (strength_of quantizer) (four_at rows.now i) }
+    ensures value { (i : ℕ) → i < 8 → four_at result i ≡ deblocked (strength_of quantizer) (four_at rows.now i) }
+    ensures unclipped { (i : ℕ) → i < 8 → Unclipped (strength_of quantizer) (four_at rows.now i) (four_at result i) }
 {
     let strength = strength_of(quantizer);
     let (mut a, mut b, mut c, mut d) = ([0; 8], [0; 8], [0; 8], [0; 8]);

@@ -6,12 +6,12 @@ abbrev pub when_some : {X Y : Type 0} → Option X → (X → Option Y) → Opti
 when_some None on = None
 when_some (Some x) on = on x
 
-abbrev pub between : ℕ → ℕ → ℕ → Bool
-between low high b = nat_le low b && nat_le b high
+abbrev pub is_between : ℕ → ℕ → ℕ → Bool
+is_between low high b = nat_le low b && nat_le b high
 
 -- a number with one digit more: 48 is '0', 57 is '9'
 abbrev pub digit_more : ℕ → ℕ → Option ℕ
-digit_more value b = cond (between 48 57 b && nat_lt (value * 10 + (b - 48)) (2 ^ 32)) (Some (value * 10 + (b - 48))) None
+digit_more value b = cond (is_between 48 57 b && nat_lt (value * 10 + (b - 48)) (2 ^ 32)) (Some (value * 10 + (b - 48))) None
 
 abbrev pub digits_from : ℕ → List ℕ → Option ℕ
 digits_from value [] = Some value
@@ -25,9 +25,9 @@ number_in (b ∷ bs) = digits_from 0 (b ∷ bs)
 -- a hexadecimal digit: 97 is 'a', 65 is 'A'
 abbrev pub nibble_of : ℕ → Option ℕ
 nibble_of b =
-    cond (between 48 57 b) (Some (b - 48))
-    (cond (between 97 102 b) (Some (b - 97 + 10))
-    (cond (between 65 70 b) (Some (b - 65 + 10))
+    cond (is_between 48 57 b) (Some (b - 48))
+    (cond (is_between 97 102 b) (Some (b - 97 + 10))
+    (cond (is_between 65 70 b) (Some (b - 65 + 10))
     None))
 
 -- two digits make a byte

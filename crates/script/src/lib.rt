@@ -1,5 +1,5 @@
-// The lines of a script of calls: what each line says, or what is wrong with it.
-// Relies on `records` for the words of the field. A script is text, one call to a line; `#` begins a comment.
+// The fields and numbers of a script's lines, the lines that list the records of a delivery, and what may be wrong with a line.
+// Relies on `records` for the kind of a picture. A script is text, one call to a line; `#` begins a comment.
 #![tactic(auto)]
 
 pub mod fields;

@@ -1,5 +1,5 @@
 // What the fields of a line say that asks for the records of a delivery, and what may be wrong with any line.
-ghost use Rattle.std.specs.Prelude.{◌≡◌, ℕ, IfOk, vec_items, codes};
+ghost use Rattle.std.specs.Prelude.{◌≡◌, ℕ, IfOk, vec_items};
 ghost use Rattle.std.specs.Option.{option_map};
 ghost use Rattle.script.specs.declared.line.LineError.TheVariants.{OutOfMemory, Wrong};
 ghost use Rattle.script.specs.Lines.{Says, bytes_of, end_of, kind_in, records_line, records_meant};

@@ -1,4 +1,4 @@
--- No two places of a byte store have one byte_address, and each byte_address lies in memory.
+-- No two places of a byte store have one address, and each address lies in memory.
 use Rattle.std.proofs.Common.{◌≡◌, ℕ, zero, suc, ◌+◌, ◌-◌, ◌*◌, ◌/◌, ◌%◌, ◌<◌, ◌≤◌, Bool, true, false, cond, ◌&&◌, eqb, ltb, leb, List, min, length, get_or, set, sym, refl, ap, ◌∙◌, ⊎_elim, mod-eq_of_lt, arith}
 use native.Mathlib.Nat.{mul-mul-mul_comm}
 use Rattle.std.proofs.lemmas.List.{get_or-set_same, get_or-set_other}
@@ -7,7 +7,7 @@ use Rattle.std.proofs.lemmas.Nat.{mul-add-lt}
 use Rattle.std.proofs.lemmas.Bool.{cases_eq, cond-true, eq-eqb, lt-ltb, ne_eqb}
 use Rattle.std.proofs.lemmas.Bool.Decides.{nat_tests}
 use Rattle.pictures.specs.Pictures.{covers, inside, painted, side, span, start}
-use Rattle.pictures.proofs.Addresses.{Within, within, is_within, Apart, of_span, same_digits, paints_run, paints_where}
+use Rattle.pictures.proofs.Addresses.{Within, address_along, within, is_within, Apart, of_span, same_digits, paints_run, paints_where}
 use Rattle.pictures.specs.declared.layouts.Segment.{Segment}
 use Rattle.tables.specs.Cells.{in_part}
 use Rattle.stores.specs.Room.{FrontCopied, WholePicture}
@@ -160,10 +160,8 @@ module _ (columns rows p x y at stride : ℕ) (kept : RowsAt columns rows p x y 
       ∙ ap (λ n. cond (leb n a && ltb a (n + 8)) (get_or values (8 * row + (a - (at + row * stride))) 0 % 256) (byte_at bytes a)) (row_at row))
       (λ q u v i e.
       let t = of_span p (y + row) x (x + 8) q u v e in
-      let back : x + (u - x) ≡ u = omega (arith, t.2) in
       let there : byte_address columns rows q u v ≡ at + row * stride + (u - x) =
-      ap (λ m. byte_address columns rows m u v) (sym t.0) ∙ ap (λ m. byte_address columns rows p u m) (sym t.1) ∙ ap (λ m. byte_address columns rows p m (y + row)) (sym back)
-      ∙ beside columns rows p x (y + row) (u - x) ∙ ap (λ n. n + (u - x)) (sym (row_at row)) in
+      address_along (byte_address columns rows) p x (y + row) 8 q u v e (λ d _. beside columns rows p x (y + row) d) ∙ ap (λ n. n + (u - x)) (sym (row_at row)) in
       let same : 8 * row + (byte_address columns rows q u v - (at + row * stride)) ≡ 8 * (v - y) + (u - x) = omega (arith, t.1) in
       mod-eq_of_lt (small _) ∙ ap (λ n. get_or values n 0) same)
     where

@@ -1,14 +1,14 @@
--- No two places of a tiled store have one tile_address, each tile_address lies in memory, and one lane of a word is set alone.
-use Rattle.std.proofs.Common.{◌≡◌, ℕ, zero, suc, ◌+◌, ◌-◌, ◌*◌, ◌/◌, ◌%◌, ◌<◌, ◌≤◌, Bool, true, false, cond, ◌&&◌, ◌||◌, eqb, ltb, leb, List, [], ◌∷◌, ◌++◌, ◌^◌, length, get_or, set, sym, refl, ap, ◌∙◌, ⊎_elim, arith}
+-- No two places of a tiled store have one address, each address lies in memory, and one lane of a word is set alone.
+use Rattle.std.proofs.Common.{◌≡◌, ℕ, zero, suc, ◌+◌, ◌-◌, ◌*◌, ◌/◌, ◌%◌, ◌<◌, ◌≤◌, Bool, true, false, cond, ◌&&◌, eqb, ltb, leb, List, [], ◌∷◌, ◌++◌, ◌^◌, length, get_or, set, sym, refl, ap, ◌∙◌, ⊎_elim, arith}
 use Rattle.std.proofs.lemmas.List.{get_or-set_same, get_or-set_other}
 use Rattle.std.proofs.Math.Nat.{mul-le-mul_right}
 use Rattle.std.proofs.lemmas.Nat.{div_below, mul-add-lt}
 use Rattle.std.proofs.lemmas.Bool.{cases_eq, cond_both, cond-true, cond-false, cases_lt, eq-eqb, eqb-true, le-leb, le-ltb, lt-leb, ne_eqb}
 use Rattle.std.proofs.lemmas.Bool.Decides.{nat_tests}
 use Rattle.pictures.specs.declared.layouts.Segment.{Segment}
-use Rattle.pictures.specs.Pictures.{Picture, covers, inside, painted, side, span, start}
-use Rattle.pictures.proofs.Painting.{both, none}
-use Rattle.pictures.proofs.Addresses.{Within, by_side, within, is_within, Apart, Run, of_span, same_digits, paints_run, paints_where}
+use Rattle.pictures.specs.Pictures.{Picture, covers, inside, painted, row_in, side, span, start}
+use Rattle.pictures.proofs.Painting.{both, no_rows_above, none, rows_above, rows_above_more}
+use Rattle.pictures.proofs.Addresses.{Within, address_along, before_border, by_side, from_border, within, is_within, Apart, Run, of_span, same_digits, paints_run, paints_where}
 use Rattle.tables.specs.Cells.{in_part}
 use Rattle.stores.specs.Room.{LiesIn}
 use Rattle.stores.specs.Tiles.{Row, SquareAt, WordAt, WordOf, column_word, four, joined, lane_at, row_word, tile_address, tiles_seen}
@@ -320,9 +320,7 @@ word_with columns rows p x y b w words values word new small isin begins at l e 
     let d : ℕ = u - x in
     let lt : d < 4 = omega (arith, t.2, t.3) in
     let back : x + d ≡ u = omega (arith, t.2) in
-    let there : tile_address columns q u v ≡ tile_address columns p x y + d =
-    ap (λ m. tile_address columns m u v) (sym t.0) ∙ ap (λ m. tile_address columns p u m) (sym t.1) ∙ ap (λ m. tile_address columns p m y) (sym back)
-    ∙ word_beside columns p x y d here.plane begins lt in
+    let there : tile_address columns q u v ≡ tile_address columns p x y + d = address_along (tile_address columns) p x y 4 q u v s (λ j. word_beside columns p x y j here.plane begins) in
     let zero_lane = begins_word columns p x y here.plane begins in
     let same : b + tile_address columns q u v % 4 ≡ b + d = omega arith in
     ap (λ m. get_or values m 0) same ∙ is d lt ∙ ap (λ m. new m (x + d) y) t.0 ∙ ap (λ m. new q m y) back ∙ ap (λ m. new q u m) t.1)
@@ -334,30 +332,6 @@ word_with columns rows p x y b w words values word new small isin begins at l e 
     lane (suc (suc zero)) g = refl
     lane (suc (suc (suc zero))) g = refl
     lane (suc (suc (suc (suc i)))) g = absurd (omega arith)
-
--- a segment's rows of macroblocks before one, and that one
-abbrev pub rows_to : Segment → ℕ → Segment
-rows_to s row = record { left = s.left; right = s.right; top = s.top; bottom = row }
-
-abbrev one_row : Segment → ℕ → Segment
-one_row s row = record { left = s.left; right = s.right; top = row; bottom = row + 1 }
-
-pub rows_none : (s : Segment) (new : ℕ → ℕ → ℕ → ℕ) (f : Picture) → f ≡ painted (covers (rows_to s s.top)) new f
-unfolding covers
-rows_none s new f = none _ _ _ no_row
-  where
-    no_row : (q u v : ℕ) → covers (rows_to s s.top) q u v ≡ false
-    no_row q u v = grind (arith, nat_tests)
-
-row_more : (s : Segment) (row q u v : ℕ) → s.top ≤ row → covers (rows_to s (row + 1)) q u v ≡ (covers (one_row s row) q u v || covers (rows_to s row) q u v)
-unfolding covers
-row_more s row q u v h =
-    joins (leb (s.left * side q) u) (ltb u (s.right * side q)) (s.top * side q) (row * side q) ((row + 1) * side q) v (mul-le-mul_right (side q) h) (mul-le-mul_right (side q) (let l : row ≤ row + 1 = omega arith in l))
-  where
-    joins : (a b : Bool) (t m n v : ℕ) → t ≤ m → m ≤ n → (a && (b && (leb t v && ltb v n))) ≡ ((a && (b && (leb m v && ltb v n))) || (a && (b && (leb t v && ltb v m))))
-    joins false b t m n v h i = refl
-    joins true false t m n v h i = refl
-    joins true true t m n v h i = grind (arith, nat_tests)
 
 -- a macroblock's number, by its row and its column, is one of a row's from left on, before right
 number_in_row : (columns left right row down across : ℕ) → across < columns → left ≤ right → right ≤ columns
@@ -399,28 +373,26 @@ words_of m n t c r h e = grind (arith, nat_tests)
 
 by_macroblocks : (p left right row u v : ℕ) → (leb left (u / side p) && (ltb (u / side p) right && (leb row (v / side p) && ltb (v / side p) (row + 1))))
     ≡ (leb (left * side p) u && (ltb u (right * side p) && (leb (row * side p) v && ltb v ((row + 1) * side p))))
-by_macroblocks p left right row u v =
-    by_side (λ s. (leb left (u / s) && (ltb (u / s) right && (leb row (v / s) && ltb (v / s) (row + 1)))) ≡ (leb (left * s) u && (ltb u (right * s) && (leb (row * s) v && ltb v ((row + 1) * s)))))
-    p (grind (arith, nat_tests)) (grind (arith, nat_tests))
+by_macroblocks p left right row u v = simp (from_border p u left, before_border p u right, from_border p v row, before_border p v (row + 1)) refl
 
 -- so the words of a row of macroblocks are those of its places
 row_words : (columns rows row q u v : ℕ) (s : Segment) → Within columns rows q u v → s.left ≤ s.right → s.right ≤ columns
     → (leb ((row * columns + s.left) * 96) (tile_address columns q u v / 4) && ltb (tile_address columns q u v / 4) ((row * columns + s.left) * 96 + (s.right - s.left) * 96))
-    ≡ covers (one_row s row) q u v
+    ≡ covers (row_in s row) q u v
 unfolding tile_address covers
 row_words columns rows row q u v s w h i =
     words_of (row * columns + s.left) (row * columns + s.right) (v / side q * columns + u / side q) ((s.right - s.left) * 96) _ (sample_below q u v w.plane) (omega arith)
     ∙ number_in_row columns s.left s.right row (v / side q) (u / side q) (div_below u (side q) columns (some q) w.across) h i ∙ by_macroblocks q s.left s.right row u v
 
 -- a row of macroblocks, whose words are set, has their samples; so have then the rows down to it, if those above it had
-pub rows_more : (columns rows row size : ℕ) (s : Segment) (words after : List ℕ) (word : ℕ → ℕ) (new : ℕ → ℕ → ℕ → ℕ) (f : Picture)
+pub tile_rows_more : (columns rows row size : ℕ) (s : Segment) (words after : List ℕ) (word : ℕ → ℕ) (new : ℕ → ℕ → ℕ → ℕ) (f : Picture)
     → LiesIn columns rows s → s.top ≤ row → columns * rows * 96 ≤ size
     → ((k : ℕ) → get_or after k 0 ≡ cond (in_part ((row * columns + s.left) * 96) ((s.right - s.left) * 96) size k) (word k) (get_or words k 0))
     → ((q u v : ℕ) → inside columns rows q u v ≡ true → get_or (four (word (tile_address columns q u v / 4))) (tile_address columns q u v % 4) 0 ≡ new q u v)
-    → tiles_seen columns rows words ≡ painted (covers (rows_to s row)) new f → tiles_seen columns rows after ≡ painted (covers (rows_to s (row + 1))) new f
-rows_more columns rows row size s words after word new f at le room step is was =
-    both (covers (rows_to s row)) (covers (one_row s row)) (covers (rows_to s (row + 1))) new f (tiles_seen columns rows words) (tiles_seen columns rows after) was
-    (paints_where columns rows (tile_address columns) (lane_at words) (lane_at after) (λ a. get_or (four (word (a / 4))) (a % 4) 0) (covers (one_row s row)) new
+    → tiles_seen columns rows words ≡ painted (covers (rows_above s row)) new f → tiles_seen columns rows after ≡ painted (covers (rows_above s (row + 1))) new f
+tile_rows_more columns rows row size s words after word new f at le room step is was =
+    both (covers (rows_above s row)) (covers (row_in s row)) (covers (rows_above s (row + 1))) new f (tiles_seen columns rows words) (tiles_seen columns rows after) was
+    (paints_where columns rows (tile_address columns) (lane_at words) (lane_at after) (λ a. get_or (four (word (a / 4))) (a % 4) 0) (covers (row_in s row)) new
     (λ q u v w.
     let a : ℕ = tile_address columns q u v in
     let k : a / 4 < size = omega (arith, address_below columns rows q u v w, room) in
@@ -428,7 +400,7 @@ rows_more columns rows row size s words after word new f at le room step is was 
     ∙ lane (in_part ((row * columns + s.left) * 96) ((s.right - s.left) * 96) size (a / 4)) (word (a / 4)) (get_or words (a / 4) 0) (a % 4)
     ∙ ap (λ b. cond b (get_or (four (word (a / 4))) (a % 4) 0) (lane_at words a)) (there _ _ size (a / 4) k ∙ row_words columns rows row q u v s w at.rightwards at.across))
     (λ q u v i e. is q u v i))
-    (λ q u v. row_more s row q u v le)
+    (λ q u v. rows_above_more s row q u v le)
   where
     lane : (b : Bool) (x y n : ℕ) → get_or (four (cond b x y)) n 0 ≡ cond b (get_or (four x) n 0) (get_or (four y) n 0)
     lane true x y n = refl
@@ -437,5 +409,9 @@ rows_more columns rows row size s words after word new f at le room step is was 
     there : (first count size k : ℕ) → k < size → in_part first count size k ≡ (leb first k && ltb k (first + count))
     there first count size k h = grind (arith, nat_tests)
 
-pub rows_all : (s : Segment) (row : ℕ) (new : ℕ → ℕ → ℕ → ℕ) (f g : Picture) → row ≡ s.bottom → g ≡ painted (covers (rows_to s row)) new f → g ≡ painted (covers s) new f
-rows_all s row new f g end was = was ∙ ap (λ r. painted (covers (rows_to s r)) new f) end
+-- no row of macroblocks is set yet, and all are
+pub tile_rows_none : (s : Segment) (new : ℕ → ℕ → ℕ → ℕ) (f : Picture) → f ≡ painted (covers (rows_above s s.top)) new f
+tile_rows_none s new f = none _ _ _ (no_rows_above s)
+
+pub tile_rows_all : (s : Segment) (row : ℕ) (new : ℕ → ℕ → ℕ → ℕ) (f g : Picture) → row ≡ s.bottom → g ≡ painted (covers (rows_above s row)) new f → g ≡ painted (covers s) new f
+tile_rows_all s row new f g end was = was ∙ ap (λ r. painted (covers (rows_above s r)) new f) end

@@ -14,11 +14,12 @@ fitting None room = None
 abbrev pub has_room : Option Format → ℕ → Bool
 has_room format room = is_some (fitting format room)
 
--- then the store has the format's columns and rows, and else none
+-- the columns and rows of a format, and none where there is none
 abbrev pub size_of : Option Format → ℕ × ℕ
 size_of (Some format) = (columns_of format, rows_of format)
 size_of None = (0, 0)
 
+-- what a store has over such room: the format's columns and rows, or none
 abbrev pub size_in : Option Format → ℕ → ℕ × ℕ
 size_in format room = size_of (fitting format room)
 

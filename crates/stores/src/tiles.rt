@@ -1,4 +1,4 @@
-ghost use Rattle.std.specs.Prelude.{◌≡◌, ℕ, ◌+◌, ◌-◌, ◌*◌, ◌/◌, ◌%◌, ◌<◌, ◌≤◌, ◌&&◌, [], ◌∷◌, ◌++◌, true, if◌then◌else◌, IfSome, length, slice_index};
+ghost use Rattle.std.specs.Prelude.{◌≡◌, ℕ, ◌+◌, ◌-◌, ◌*◌, ◌/◌, ◌%◌, ◌<◌, ◌≤◌, ◌&&◌, [], ◌∷◌, ◌++◌, true, IfSome, length, slice_index};
 ghost use Rattle.pictures.specs.Pictures.{Square, covers, inside, painted, painted_square};
 ghost use Rattle.stores.specs.Room.{LiesIn, Placed};
 ghost use Rattle.stores.specs.Tiles.{Row, SquareAt, WordAt, WordOf, column_word, four, joined, row_word, tile_address, tiles_seen};

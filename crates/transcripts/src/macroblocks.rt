@@ -1,5 +1,5 @@
 // A macroblock of a delivery, as the text of a line.
-ghost use Rattle.std.specs.Prelude.{◌≡◌, Some};
+ghost use Rattle.std.specs.Prelude.{Some};
 ghost use Rattle.transcripts.specs.Macroblocks.{coded_text, dcs_text, difference_text, macroblock_text, numbered_text, six_bits};
 
 use records::types::{Block, Difference, Macroblock};

@@ -5,7 +5,7 @@ ghost use Rattle.std.specs.Result.{result_ok};
 ghost use Rattle.std.specs.Fmt.{option_append};
 ghost use Rattle.transcripts.specs.Answers.{Grown, answer_text, done_text, word_text};
 ghost use Rattle.transcripts.specs.Tallies.{is_refused, one_more, one_more_if};
-ghost use Rattle.transcripts.specs.Transcribed.{Transcribes, transcribe_answer, transcribe_done, transcribed_in, with_line};
+ghost use Rattle.transcripts.specs.Transcribed.{Transcribes, transcribe_answer, transcribe_done, with_line};
 
 use crate::answers::{Answered, Word};
 use calls::answers::Answer;

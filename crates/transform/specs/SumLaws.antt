@@ -40,13 +40,13 @@ unfolding sum_to
 sum_scale zero a f = *ℤ-zero a
 sum_scale (suc n) a f = times_sum a (sum_to n f) (f n) ∙ ap (λ z. z +ℤ a *ℤ f n) (sum_scale n a f)
 
-four : (a b c d : ℤ) → (a +ℤ b) +ℤ (c +ℤ d) ≡ (a +ℤ c) +ℤ (b +ℤ d)
-four a b c d = omega (arith, ints)
+regrouped : (a b c d : ℤ) → (a +ℤ b) +ℤ (c +ℤ d) ≡ (a +ℤ c) +ℤ (b +ℤ d)
+regrouped a b c d = omega (arith, ints)
 
 pub sum_add : (n : ℕ) (f g : ℕ → ℤ) → sum_to n (λ u. f u +ℤ g u) ≡ sum_to n f +ℤ sum_to n g
 unfolding sum_to
 sum_add zero f g = refl
-sum_add (suc n) f g = ap (λ z. z +ℤ (f n +ℤ g n)) (sum_add n f g) ∙ four (sum_to n f) (sum_to n g) (f n) (g n)
+sum_add (suc n) f g = ap (λ z. z +ℤ (f n +ℤ g n)) (sum_add n f g) ∙ regrouped (sum_to n f) (sum_to n g) (f n) (g n)
 
 -- the order of two sums
 pub sum_swap : (m n : ℕ) (f : ℕ → ℕ → ℤ) → sum_to m (λ v. sum_to n (λ u. f u v)) ≡ sum_to n (λ u. sum_to m (λ v. f u v))

@@ -85,7 +85,7 @@ desktern_free_spec 𝓤 𝓛 𝓜 𝓡 wired =
     first ! $ branches ! (get ! refl)
     (λ t. sets ! (of_opd ! (unit_lit !)) refl (tt, tt) $ returns_within ! Post refl (look_at ! 0 refl) $ free_all ! refl $ out)
     (λ t. absurd t)))
-    -- a handle is
+    -- there is one
     (λ b o x e may.
     let w : Val = two_words (vptr b o) h in let typed = raw_box_good R Z LZ ghosts b o h fits in
     let k = triple_of 𝓛 callee.signature (callee.spec 𝓛 𝓜.mem 𝓡.returns) in

@@ -1,4 +1,4 @@
-use Rattle.std.proofs.Common.{◌≡◌, ℕ, ◌+◌, ◌*◌, ◌/◌, ◌<◌, ◌≤◌, ℤ, pos, ◌-ℤ◌, ap, ◌∙◌, arith, w32, SFits, to_z, of_z}
+use Rattle.std.proofs.Common.{◌≡◌, ℕ, ◌+◌, ◌*◌, ◌/◌, ◌<◌, ◌≤◌, ℤ, pos, ◌-ℤ◌, ap, ◌∙◌, arith, w32, to_z, of_z}
 use Rattle.std.proofs.lemmas.Int.{ints}
 use Rattle.std.proofs.lemmas.Nat.{mul-le}
 use Rattle.conformance.specs.Draws.{drawn}
@@ -11,9 +11,6 @@ product_size x a b h k l = mul-le x (a + b + 1) 2147483647 131071 (omega arith) 
 
 part_size : (x a b : ℕ) → x < 2147483648 → a < 65536 → b < 65536 → x * (a + b + 1) / 2147483647 ≤ 131071
 part_size x a b h k l = let p = product_size x a b h k l in omega arith
-
-difference_fits : (q low : ℕ) (z : ℤ) → q ≤ 131071 → low < 65536 → z ≡ pos low → SFits w32 (to_z w32 q -ℤ to_z w32 (of_z w32 z))
-difference_fits q low z h k e = omega (arith, ints)
 
 difference_is : (q low : ℕ) (z : ℤ) → q ≤ 131071 → low < 65536 → z ≡ pos low → to_z w32 (of_z w32 (to_z w32 q -ℤ to_z w32 (of_z w32 z))) ≡ pos q -ℤ pos low
 difference_is q low z h k e = omega (arith, ints)

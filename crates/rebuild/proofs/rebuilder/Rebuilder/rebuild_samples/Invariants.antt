@@ -1,9 +1,9 @@
 use Rattle.std.proofs.Common.{◌≡◌, ◌-◌, ◌*◌, drop}
 use Rattle.pictures.specs.Pictures.{covers, painted}
+use Rattle.pictures.proofs.Painting.{rows_above}
 use Rattle.records.specs.Again.{records_of}
 use Rattle.rebuild.specs.Segments.{cell_at}
 use Rattle.rebuild.specs.Rebuilders.{segment_samples_by}
-use Rattle.rebuild.proofs.Rectangles.{rows_above}
 use Rattle.rebuild.proofs.rebuilder.Rebuilder.rebuild_samples.Given as goal
 
 -- the rows above this one are set
